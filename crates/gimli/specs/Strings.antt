@@ -1,0 +1,34 @@
+-- A state as a string of 48 bytes, and the permutation as a rule on such strings.
+use mathlib.Core.List.{List, map}
+use Prim.Native.Nat.{ℕ, zero, suc, _+_, _*_, _/_, _%_, _^_}
+use lib.ListN.{getD}
+use Rattle.std.specs.Iters.{counting}
+use Rattle.engine.specs.Strings.{width}
+use Rattle.gimli.specs.Permutation.{row, permutation}
+use Rattle.gimli.specs.declared.state.State.{State}
+
+-- row 0, row 1, row 2
+abbrev pub row-of : State → ℕ → List ℕ
+row-of s zero = s .top
+row-of s (suc zero) = s .middle
+row-of s (suc (suc i)) = s .bottom
+
+-- the byte at a place: word s(i,j) begins at place 16 i + 4 j, its lowest byte first
+abbrev pub byte-at : State → ℕ → ℕ
+byte-at s place = getD (row-of s (place / 16)) (place % 16 / 4) 0 / 256 ^ (place % 4) % 256
+
+-- the string of a state
+unfoldable pub string : State → List ℕ
+string s = map (byte-at s) (counting 0 width)
+
+-- the word that begins at a place of a string
+abbrev pub word-at : List ℕ → ℕ → ℕ
+word-at m place = getD m place 0 + getD m (place + 1) 0 * 256 + getD m (place + 2) 0 * 65536 + getD m (place + 3) 0 * 16777216
+
+-- the state of a string
+unfoldable pub state : List ℕ → State
+state m = record { top = row (λ j. word-at m (4 * j)); middle = row (λ j. word-at m (16 + 4 * j)); bottom = row (λ j. word-at m (32 + 4 * j)) }
+
+-- what the permutation does to a string
+unfoldable pub gimli : List ℕ → List ℕ
+gimli m = string (permutation (state m))
