@@ -1,10 +1,11 @@
 -- The Gimli permutation: 24 rounds on a state of three rows of four words.
+use mathlib.Core.Path.{_≡_}
 use mathlib.Core.List.{List, [], _∷_}
 use mathlib.Core.Bool.{cond}
-use Prim.Native.Nat.{ℕ, zero, suc, _-_, _%_}
+use Prim.Native.Nat.{ℕ, zero, suc, _-_, _%_, _^_, _<_}
 use lib.Bits.{bitAnd, bitOr, bitXor}
 use lib.Dec.{eqb}
-use lib.ListN.{getD}
+use lib.ListN.{length, getD}
 use Rattle.gimli.specs.Words.{shifted, rotated}
 use Rattle.gimli.specs.declared.state.State.{State}
 
@@ -23,6 +24,17 @@ sp-box (w0, w1, w2) =
 -- a row from its four words
 abbrev pub row : (ℕ → ℕ) → List ℕ
 row word = word 0 ∷ word 1 ∷ word 2 ∷ word 3 ∷ []
+
+-- a row has four words of 32 bits
+pub record WholeRow (r : List ℕ) : Type 0 where
+  pub long : length r ≡ 4
+  pub words : (j : ℕ) → getD r j 0 < 2 ^ 32
+
+-- what the code's types say of a state
+pub record Whole (s : State) : Type 0 where
+  pub top : WholeRow (s .top)
+  pub middle : WholeRow (s .middle)
+  pub bottom : WholeRow (s .bottom)
 
 -- column j of a state
 abbrev pub column : State → ℕ → Column

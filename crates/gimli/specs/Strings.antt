@@ -1,8 +1,12 @@
 -- A state as a string of 48 bytes, and the permutation as a rule on such strings.
+use mathlib.Core.Path.{_≡_}
+use mathlib.Core.Logic.{_≢_}
 use mathlib.Core.List.{List, map}
 use Prim.Native.Nat.{ℕ, zero, suc, _+_, _*_, _/_, _%_, _^_}
-use lib.ListN.{getD}
+use lib.ListN.{length, getD}
 use Rattle.std.specs.Iters.{counting}
+use Rattle.std.specs.declared.option.Option.{Option}
+use Rattle.std.specs.declared.option.Option.the-variants.{Some, None}
 use Rattle.engine.specs.Strings.{width}
 use Rattle.gimli.specs.Permutation.{row, permutation}
 use Rattle.gimli.specs.declared.state.State.{State}
@@ -15,7 +19,7 @@ row-of s (suc (suc i)) = s .bottom
 
 -- the byte at a place: word s(i,j) begins at place 16 i + 4 j, its lowest byte first
 abbrev pub byte-at : State → ℕ → ℕ
-byte-at s place = getD (row-of s (place / 16)) (place % 16 / 4) 0 / 256 ^ (place % 4) % 256
+byte-at s place = getD (row-of s (place / 16)) (place % 16 / 4) 0 / 2 ^ (8 * (place % 4)) % 256
 
 -- the string of a state
 unfoldable pub string : State → List ℕ
@@ -28,6 +32,11 @@ word-at m place = getD m place 0 + getD m (place + 1) 0 * 256 + getD m (place + 
 -- the state of a string
 unfoldable pub state : List ℕ → State
 state m = record { top = row (λ j. word-at m (4 * j)); middle = row (λ j. word-at m (16 + 4 * j)); bottom = row (λ j. word-at m (32 + 4 * j)) }
+
+-- from_bytes: a state of a string of 48 bytes, and of no other
+abbrev pub FromBytes : List ℕ → Option State → Type 0
+FromBytes m None = length m ≢ width
+FromBytes m (Some s) = (length m ≡ width) × (s ≡ state m)
 
 -- what the permutation does to a string
 unfoldable pub gimli : List ℕ → List ℕ

@@ -1,4 +1,5 @@
 // The Gimli permutation and the engines that compute it.
-pub mod state;
-pub mod sp_box;
+pub mod plain;
 pub mod rounds;
+pub mod sp_box;
+pub mod state;

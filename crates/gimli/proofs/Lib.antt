@@ -1,0 +1,3 @@
+mod Bits
+mod Strings
+mod Words
