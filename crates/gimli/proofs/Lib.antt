@@ -1,3 +1,4 @@
 mod Bits
+mod Sharing
 mod Strings
 mod Words

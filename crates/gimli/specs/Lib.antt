@@ -1,3 +1,4 @@
 pub mod Words
 pub mod Permutation
 pub mod Strings
+pub mod Shares
