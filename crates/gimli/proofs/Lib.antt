@@ -1,4 +1,6 @@
 mod Bits
+mod Four
+mod SharedStrings
 mod Sharing
 mod Strings
 mod Words

@@ -13,6 +13,7 @@ use Rattle.std.proofs.shelf.Counted.{length-map-counting, getD-map-counting}
 use Rattle.std.proofs.shelf.Lists.{ext-getD, getD-past, length-set, getD-set-same, getD-set-other}
 use Rattle.std.proofs.shelf.Tests.{cases-eq, cases-lt}
 use Rattle.engine.specs.Strings.{xored, Bytes, Whole as WholeString}
+use Rattle.gimli.proofs.Four.{by-four, row-of-four}
 use Rattle.gimli.specs.Permutation.{row, Whole, WholeRow, permutation}
 use Rattle.gimli.specs.Strings.{row-of, byte-at, string, word-at, state, gimli}
 use Rattle.gimli.specs.declared.state.State.{State}
@@ -72,14 +73,6 @@ row-kept s (suc zero) (suc (suc k)) r hi hk ne = refl
 row-kept s (suc (suc i)) zero r hi hk ne = refl
 row-kept s (suc (suc i)) (suc zero) r hi hk ne = refl
 row-kept s (suc (suc i)) (suc (suc k)) r hi hk ne = absurd (ne (omega arith))
-
--- a fact about the places of a word's bytes holds if it holds of each
-by-four : (P : ℕ → Type 0) → P 0 → P 1 → P 2 → P 3 → (m : ℕ) → m < 4 → P m
-by-four P p0 p1 p2 p3 zero h = p0
-by-four P p0 p1 p2 p3 (suc zero) h = p1
-by-four P p0 p1 p2 p3 (suc (suc zero)) h = p2
-by-four P p0 p1 p2 p3 (suc (suc (suc zero))) h = p3
-by-four P p0 p1 p2 p3 (suc (suc (suc (suc m)))) h = absurd (omega arith)
 
 -- a byte at byte place m of a word, as seen at m and at another place
 abbrev lifted : ℕ → ℕ → ℕ
@@ -178,15 +171,8 @@ rejoined-is w h =
     omega (arith, div-one w)
 
 row-rejoined : (r : List ℕ) → WholeRow r → row (λ j. rejoined (getD r j 0)) ≡ r
-row-rejoined r whole = four r (whole .long) (whole .words)
-  where
-    four : (r : List ℕ) → length r ≡ 4 → ((j : ℕ) → getD r j 0 < 2 ^ 32) → row (λ j. rejoined (getD r j 0)) ≡ r
-    four (a ∷ b ∷ c ∷ d ∷ []) e fits = simp (rejoined-is a (fits 0), rejoined-is b (fits 1), rejoined-is c (fits 2), rejoined-is d (fits 3))
-    four [] e fits = absurd (omega arith)
-    four (a ∷ []) e fits = absurd (omega arith)
-    four (a ∷ b ∷ []) e fits = absurd (omega arith)
-    four (a ∷ b ∷ c ∷ []) e fits = absurd (omega arith)
-    four (a ∷ b ∷ c ∷ d ∷ x ∷ r) e fits = absurd (omega arith)
+row-rejoined r whole =
+    (λ i. row (λ j. rejoined-is (getD r j 0) (whole .words j) i)) ∙ row-of-four r (whole .long)
 
 pub state-back : (s : State) → Whole s → state (string s) ≡ s
 unfolding state string

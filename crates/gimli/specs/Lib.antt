@@ -2,3 +2,4 @@ pub mod Words
 pub mod Permutation
 pub mod Strings
 pub mod Shares
+pub mod ThreeShare

@@ -2,12 +2,16 @@
 use mathlib.Core.Path.{_≡_}
 use mathlib.Core.Logic.{_≢_}
 use mathlib.Core.List.{List, map}
-use Prim.Native.Nat.{ℕ, zero, suc, _+_, _*_, _/_, _%_, _^_}
+use Prim.Native.Nat.{ℕ, zero, suc, _+_, _*_, _/_, _%_, _^_, _<_, _≤_}
 use lib.ListN.{length, getD}
 use Rattle.std.specs.Iters.{counting}
 use Rattle.std.specs.declared.option.Option.{Option}
 use Rattle.std.specs.declared.option.Option.the-variants.{Some, None}
-use Rattle.engine.specs.Strings.{width}
+use Rattle.std.specs.declared.result.Result.{Result}
+use Rattle.std.specs.declared.result.Result.the-variants.{Ok, Err}
+use Rattle.engine.specs.Refusals.{number}
+use Rattle.engine.specs.Strings.{width, xored}
+use Rattle.engine.specs.declared.refusal.Refusal.{Refusal}
 use Rattle.gimli.specs.Permutation.{row, permutation}
 use Rattle.gimli.specs.declared.state.State.{State}
 
@@ -37,6 +41,11 @@ state m = record { top = row (λ j. word-at m (4 * j)); middle = row (λ j. word
 abbrev pub FromBytes : List ℕ → Option State → Type 0
 FromBytes m None = length m ≢ width
 FromBytes m (Some s) = (length m ≡ width) × (s ≡ state m)
+
+-- xor_byte of a state: done to its string within it; past it refused with 1, and the state is as it was
+abbrev pub StateXored : State → ℕ → ℕ → Result Unit Refusal → State → Type 0
+StateXored before place b (Ok x) after = (place < width) × (string after ≡ xored (string before) place b)
+StateXored before place b (Err e) after = (width ≤ place) × (number e ≡ 1) × (after ≡ before)
 
 -- what the permutation does to a string
 unfoldable pub gimli : List ℕ → List ℕ

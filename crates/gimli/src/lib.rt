@@ -4,3 +4,4 @@ pub mod rounds;
 pub mod shares;
 pub mod sp_box;
 pub mod state;
+pub mod three_share;

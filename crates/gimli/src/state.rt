@@ -1,11 +1,13 @@
 // The state: three rows of four words.
 ghost use mathlib.Core.Path.{_≡_};
 ghost use Prim.Native.Nat.{_+_, _*_, _≤_};
-ghost use lib.ListN.{length};
-ghost use Rattle.engine.specs.Answers.{Xored, Read};
+ghost use lib.Bits.{bitXor};
+ghost use lib.ListN.{length, getD};
+ghost use Rattle.engine.specs.Answers.{Read};
 ghost use Rattle.engine.specs.Strings.{zeros};
 ghost use Rattle.gimli.specs.Permutation.{row};
-ghost use Rattle.gimli.specs.Strings.{string, word-at, FromBytes};
+ghost use Rattle.gimli.specs.Shares.{xor-states};
+ghost use Rattle.gimli.specs.Strings.{string, word-at, FromBytes, StateXored};
 use engine::engine::WIDTH;
 use engine::refusal::Refusal;
 
@@ -42,6 +44,12 @@ fn row_at(string: &[u8], place: usize) -> [u32; 4]
     ]
 }
 
+fn xor_rows(a: [u32; 4], b: [u32; 4]) -> [u32; 4]
+    ensures { λ r. ⌜ r ≡ row (λ j. bitXor (getD a j 0) (getD b j 0)) ⌝ }
+{
+    [a[0] ^ b[0], a[1] ^ b[1], a[2] ^ b[2], a[3] ^ b[3]]
+}
+
 impl State {
     // The state of zeros.
     pub fn zero() -> State
@@ -68,6 +76,17 @@ impl State {
         })
     }
 
+    // The state of the xors of the words of two.
+    pub fn xor(self, other: State) -> State
+        ensures { λ r. ⌜ r ≡ xor-states self other ⌝ }
+    {
+        State {
+            top: xor_rows(self.top, other.top),
+            middle: xor_rows(self.middle, other.middle),
+            bottom: xor_rows(self.bottom, other.bottom),
+        }
+    }
+
     // The byte at a place of the state's string.
     pub fn byte(&self, place: usize) -> Result<u8, Refusal>
         ensures { λ r. ⌜ Read (string (now (self .entry))) place r ⌝ }
@@ -86,7 +105,7 @@ impl State {
 
     // Changes the byte at a place of the state's string by xor with b.
     pub fn xor_byte(&mut self, place: usize, b: u8) -> Result<(), Refusal>
-        ensures { λ r. ⌜ Xored (string (now (self .entry))) place b r (string (now (self .exit))) ⌝ }
+        ensures { λ r. ⌜ StateXored (now (self .entry)) place b r (now (self .exit)) ⌝ }
     {
         if place >= WIDTH {
             return Err(Refusal::PlaceOutsideState);
