@@ -2,5 +2,6 @@ mod Bits
 mod Four
 mod SharedStrings
 mod Sharing
+mod StandingRow
 mod Strings
 mod Words

@@ -3,3 +3,4 @@ pub mod Permutation
 pub mod Strings
 pub mod Shares
 pub mod ThreeShare
+pub mod Standing

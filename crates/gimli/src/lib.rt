@@ -3,5 +3,6 @@ pub mod plain;
 pub mod rounds;
 pub mod shares;
 pub mod sp_box;
+pub mod standing;
 pub mod state;
 pub mod three_share;
