@@ -6,7 +6,7 @@ use Prim.Native.Nat.{ℕ, zero, suc, _+_, _*_, _/_, _%_, _^_, _<_, _≤_}
 use native.Mathlib.Omega.{arith}
 use lib.Bits.{bitXor, xor-lt, xor-assoc, xor-comm, xor-self}
 use lib.ListN.{length, getD, set}
-use Rattle.std.proofs.shelf.Lists.{length-set, getD-set-same, getD-set-other}
+use Rattle.std.proofs.shelf.Lists.{set-getD, length-set, getD-set-same, getD-set-other}
 use Rattle.std.proofs.shelf.Tests.{cases-eq}
 use Rattle.std.specs.declared.result.Result.{Result}
 use Rattle.std.specs.declared.result.Result.the-variants.{Ok, Err}
@@ -29,6 +29,10 @@ zeroth-replaced [] t e = absurd (omega arith)
 zeroth-replaced (a ∷ []) t e = absurd (omega arith)
 zeroth-replaced (a ∷ b ∷ []) t e = absurd (omega arith)
 zeroth-replaced (a ∷ b ∷ c ∷ d ∷ s) t e = absurd (omega arith)
+
+-- three shares are the list of them
+pub three-shares : (s : Sharing) → length s ≡ 3 → share s 0 ∷ share s 1 ∷ share s 2 ∷ [] ≡ s
+three-shares s long = sym (zeroth-replaced s (share s 0) long) ∙ set-getD s 0 _
 
 -- ---- bytes
 

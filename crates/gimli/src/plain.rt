@@ -41,6 +41,6 @@ pub impl Engine for PlainEngine as PlainGimli {
     }
 
     fn permute(&mut self) {
-        self.state = permutation(self.state);
+        self.state = permutation(self.state.known());
     }
 }

@@ -1,7 +1,7 @@
 // Rounds, which take and give a state by value.
 ghost use mathlib.Core.Path.{_≡_};
 ghost use Prim.Native.Nat.{min};
-ghost use Rattle.gimli.specs.Permutation.{Whole, columns, small-swap, big-swap, add-constant, round, first-rounds, permutation};
+ghost use Rattle.gimli.specs.Permutation.{columns, small-swap, big-swap, add-constant, round, first-rounds, permutation};
 use crate::sp_box::sp_box;
 use crate::state::State;
 
@@ -10,8 +10,7 @@ pub const CONSTANT: u32 = 0x9e37_7900;
 
 // The SP-box on each column.
 pub fn columns(s: State) -> State
-    ensures value { λ r. ⌜ r ≡ columns s ⌝ }
-    ensures whole { λ _. ⌜ Whole s ⌝ }
+    ensures { λ r. ⌜ r ≡ columns s ⌝ }
 {
     let State {
         top,
@@ -99,8 +98,7 @@ pub fn first_rounds(s: State, n: u32) -> State
 
 // Four rounds from a multiple of 4 on, with no test in the middle.
 fn four_rounds(s: State, number: u32) -> State
-    ensures value { λ r. ⌜ r ≡ columns (big-swap (columns (columns (add-constant number (small-swap (columns s)))))) ⌝ }
-    ensures whole { λ _. ⌜ Whole s ⌝ }
+    ensures { λ r. ⌜ r ≡ columns (big-swap (columns (columns (add-constant number (small-swap (columns s)))))) ⌝ }
 {
     let s = add_constant(small_swap(columns(s)), number);
     let s = big_swap(columns(columns(s)));
@@ -108,8 +106,7 @@ fn four_rounds(s: State, number: u32) -> State
 }
 
 pub fn permutation(s: State) -> State
-    ensures value { λ r. ⌜ r ≡ permutation s ⌝ }
-    ensures whole { λ _. ⌜ Whole s ⌝ }
+    ensures { λ r. ⌜ r ≡ permutation s ⌝ }
 {
     let s = four_rounds(s, 24);
     let s = four_rounds(s, 20);

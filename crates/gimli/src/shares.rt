@@ -1,6 +1,6 @@
 // Three shares of a state, permuted without being joined.
 ghost use mathlib.Core.Path.{_≡_};
-ghost use Rattle.gimli.specs.Permutation.{Whole, permutation};
+ghost use Rattle.gimli.specs.Permutation.{permutation};
 ghost use Rattle.gimli.specs.Shares.{share-sp-box, share-columns, shared-columns, shared-small-swap, shared-big-swap, shared-constant, shared-permutation, WholeShares, joined};
 use crate::rounds::{add_constant, big_swap, small_swap};
 use crate::sp_box::Column;
@@ -28,8 +28,7 @@ fn share_sp_box(a: Column, b: Column) -> Column
 }
 
 fn share_columns(a: State, b: State) -> State
-    ensures value { λ r. ⌜ r ≡ share-columns a b ⌝ }
-    ensures whole { λ _. ⌜ Whole a ⌝ }
+    ensures { λ r. ⌜ r ≡ share-columns a b ⌝ }
 {
     let (x0, y0, z0) = share_sp_box((a.top[0], a.middle[0], a.bottom[0]), (b.top[0], b.middle[0], b.bottom[0]));
     let (x1, y1, z1) = share_sp_box((a.top[1], a.middle[1], a.bottom[1]), (b.top[1], b.middle[1], b.bottom[1]));
@@ -43,8 +42,7 @@ fn share_columns(a: State, b: State) -> State
 }
 
 fn columns(s: Shares) -> Shares
-    ensures value { λ r. ⌜ r .share ≡ shared-columns (s .share) ⌝ }
-    ensures whole { λ _. ⌜ WholeShares (s .share) ⌝ }
+    ensures { λ r. ⌜ r .share ≡ shared-columns (s .share) ⌝ }
 {
     let [s0, s1, s2] = s.share;
     Shares {
@@ -81,8 +79,7 @@ fn constant(s: Shares, number: u32) -> Shares
 
 // Four rounds from a multiple of 4 on.
 fn four_rounds(s: Shares, number: u32) -> Shares
-    ensures value { λ r. ⌜ r .share ≡ shared-columns (shared-big-swap (shared-columns (shared-columns (shared-constant number (shared-small-swap (shared-columns (s .share))))))) ⌝ }
-    ensures whole { λ _. ⌜ WholeShares (s .share) ⌝ }
+    ensures { λ r. ⌜ r .share ≡ shared-columns (shared-big-swap (shared-columns (shared-columns (shared-constant number (shared-small-swap (shared-columns (s .share))))))) ⌝ }
 {
     let s = constant(small_swaps(columns(s)), number);
     let s = big_swaps(columns(columns(s)));
@@ -90,11 +87,21 @@ fn four_rounds(s: Shares, number: u32) -> Shares
 }
 
 impl Shares {
+    // The same shares. A caller learns what their type says of them.
+    pub fn known(self) -> Shares
+        ensures same { λ r. ⌜ r ≡ self ⌝ }
+        ensures whole { λ _. ⌜ WholeShares (self .share) ⌝ }
+    {
+        let [s0, s1, s2] = self.share;
+        Shares {
+            share: [s0.known(), s1.known(), s2.known()],
+        }
+    }
+
     // The permutation, share by share.
     pub fn permutation(self) -> Shares
         ensures each { λ r. ⌜ r .share ≡ shared-permutation (self .share) ⌝ }
         ensures joined { λ r. ⌜ joined (r .share) ≡ permutation (joined (self .share)) ⌝ }
-        ensures whole { λ _. ⌜ WholeShares (self .share) ⌝ }
     {
         let s = four_rounds(self, 24);
         let s = four_rounds(s, 20);

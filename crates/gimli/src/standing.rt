@@ -4,7 +4,7 @@ ghost use Prim.Native.Nat.{_<_};
 ghost use lib.Bits.{bitXor};
 ghost use lib.ListN.{length};
 ghost use Rattle.engine.specs.Strings.{zeros};
-ghost use Rattle.gimli.specs.Permutation.{Whole, columns, small-swap, big-swap, add-constant, round, permutation};
+ghost use Rattle.gimli.specs.Permutation.{columns, small-swap, big-swap, add-constant, round, permutation};
 ghost use Rattle.gimli.specs.Standing.{meant, next-k};
 ghost use Rattle.gimli.specs.Strings.{string, gimli};
 use crate::rounds::CONSTANT;
@@ -107,7 +107,6 @@ fn round(s: Standing, number: u32) -> Standing
 pub fn standing_permutation(s: State) -> Standing
     ensures value { λ r. ⌜ r .stored ≡ permutation s ⌝ }
     ensures k { λ r. ⌜ r .k ≡ 0 ⌝ }
-    ensures whole { λ _. ⌜ Whole s ⌝ }
 {
     let mut standing = Standing { stored: s, k: 0 };
     for done in 0..24 {
@@ -150,7 +149,7 @@ pub impl Engine for StandingEngine as StandingGimli {
     }
 
     fn permute(&mut self) {
-        let standing = standing_permutation(self.state);
+        let standing = standing_permutation(self.state.known());
         self.state = standing.stored;
     }
 }

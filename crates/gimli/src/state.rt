@@ -5,7 +5,7 @@ ghost use lib.Bits.{bitXor};
 ghost use lib.ListN.{length, getD};
 ghost use Rattle.engine.specs.Answers.{Read};
 ghost use Rattle.engine.specs.Strings.{zeros};
-ghost use Rattle.gimli.specs.Permutation.{row};
+ghost use Rattle.gimli.specs.Permutation.{Whole, row};
 ghost use Rattle.gimli.specs.Shares.{xor-states};
 ghost use Rattle.gimli.specs.Strings.{string, word-at, FromBytes, StateXored};
 use engine::engine::WIDTH;
@@ -74,6 +74,14 @@ impl State {
             middle: row_at(string, 16),
             bottom: row_at(string, 32),
         })
+    }
+
+    // The same state. A caller learns what its type says of it: four words of 32 bits to a row.
+    pub fn known(self) -> State
+        ensures same { λ r. ⌜ r ≡ self ⌝ }
+        ensures whole { λ _. ⌜ Whole self ⌝ }
+    {
+        self
     }
 
     // The state of the xors of the words of two.

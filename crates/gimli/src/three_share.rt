@@ -72,6 +72,6 @@ pub impl Engine for ThreeShareEngine as ThreeShareGimli {
         ensures shares { λ _. ⌜ now (self .exit) .shares .share ≡ shared-permutation (now (self .entry) .shares .share) ⌝ }
         ensures meaning { λ _. ⌜ string (joined (now (self .exit) .shares .share)) ≡ gimli (string (joined (now (self .entry) .shares .share))) ⌝ }
     {
-        self.shares = self.shares.permutation();
+        self.shares = self.shares.known().permutation();
     }
 }

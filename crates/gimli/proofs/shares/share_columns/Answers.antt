@@ -1,14 +1,6 @@
-use borrow.Author.Needs.{needs}
 use Rattle.gimli.specs.Shares.{share-columns}
 use Rattle.gimli.proofs.shares.share_columns.Needs as need
 
 pub returns : need.returns
 unfolding share-columns
-returns c = record {
-  value = simp (c .share-sp-box-x0 .ensures, c .share-sp-box-x1 .ensures, c .share-sp-box-x2 .ensures, c .share-sp-box-x3 .ensures);
-  whole = record {
-    top = record { long = search needs; words = λ j. search needs };
-    middle = record { long = search needs; words = λ j. search needs };
-    bottom = record { long = search needs; words = λ j. search needs };
-  };
-}
+returns c = simp (c .share-sp-box-x0 .ensures, c .share-sp-box-x1 .ensures, c .share-sp-box-x2 .ensures, c .share-sp-box-x3 .ensures)

@@ -34,9 +34,4 @@ returns c =
     record {
       value = sym (at-rest (c .loop-done .standing) rest (c .loop-done .inv .3)) ∙ c .loop-done .inv .0 ∙ ap (λ n. first-rounds n (c .args .s)) all;
       k = rest;
-      whole = record {
-        top = record { long = search needs; words = λ j. search needs };
-        middle = record { long = search needs; words = λ j. search needs };
-        bottom = record { long = search needs; words = λ j. search needs };
-      };
     }

@@ -1,5 +1,7 @@
+use mathlib.Core.Path.{ap, _∙_}
+use Rattle.gimli.specs.Permutation.{permutation}
 use Rattle.gimli.proofs.Strings.{permuted-string}
 use Rattle.gimli.proofs.plain.PlainGimli.permute.Needs as need
 
 pub returns : need.returns
-returns c = permuted-string (c .args .self .now .state) (c .permutation-self .result) (c .permutation-self .ensures .whole) (c .permutation-self .ensures .value)
+returns c = permuted-string (c .args .self .now .state) (c .permutation-self .result) (c .known .ensures .whole) (c .permutation-self .ensures ∙ ap permutation (c .known .ensures .same))
