@@ -12,6 +12,13 @@ pub struct PlainEngine {
     state: State,
 }
 
+// The permutation, as the rule on a state's string.
+fn permuted(state: State) -> State
+    ensures { λ r. ⌜ string r ≡ gimli (string state) ⌝ }
+{
+    permutation(state.known())
+}
+
 impl PlainEngine {
     // An engine of zeros.
     pub fn new() -> PlainEngine
@@ -41,6 +48,6 @@ pub impl Engine for PlainEngine as PlainGimli {
     }
 
     fn permute(&mut self) {
-        self.state = permutation(self.state.known());
+        self.state = permuted(self.state);
     }
 }

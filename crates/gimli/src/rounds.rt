@@ -9,7 +9,7 @@ use crate::state::State;
 pub const CONSTANT: u32 = 0x9e37_7900;
 
 // The SP-box on each column.
-pub fn columns(s: State) -> State
+pub(crate) fn columns(s: State) -> State
     ensures { λ r. ⌜ r ≡ columns s ⌝ }
 {
     let State {
@@ -28,7 +28,7 @@ pub fn columns(s: State) -> State
     }
 }
 
-pub fn small_swap(s: State) -> State
+pub(crate) fn small_swap(s: State) -> State
     ensures { λ r. ⌜ r ≡ small-swap s ⌝ }
 {
     let State {
@@ -43,7 +43,7 @@ pub fn small_swap(s: State) -> State
     }
 }
 
-pub fn big_swap(s: State) -> State
+pub(crate) fn big_swap(s: State) -> State
     ensures { λ r. ⌜ r ≡ big-swap s ⌝ }
 {
     let State {
@@ -58,7 +58,7 @@ pub fn big_swap(s: State) -> State
     }
 }
 
-pub fn add_constant(s: State, number: u32) -> State
+pub(crate) fn add_constant(s: State, number: u32) -> State
     ensures { λ r. ⌜ r ≡ add-constant number s ⌝ }
 {
     let State {
@@ -74,7 +74,7 @@ pub fn add_constant(s: State, number: u32) -> State
 }
 
 // One round, by its number.
-pub fn round(s: State, number: u32) -> State
+pub(crate) fn round(s: State, number: u32) -> State
     ensures { λ r. ⌜ r ≡ round number s ⌝ }
 {
     let s = columns(s);

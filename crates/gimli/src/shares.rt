@@ -88,7 +88,7 @@ fn four_rounds(s: Shares, number: u32) -> Shares
 
 impl Shares {
     // The same shares. A caller learns what their type says of them.
-    pub fn known(self) -> Shares
+    pub(crate) fn known(self) -> Shares
         ensures same { λ r. ⌜ r ≡ self ⌝ }
         ensures whole { λ _. ⌜ WholeShares (self .share) ⌝ }
     {

@@ -115,6 +115,13 @@ pub fn standing_permutation(s: State) -> Standing
     standing
 }
 
+// The permutation, as the rule on a state's string.
+fn permuted(state: State) -> State
+    ensures { λ r. ⌜ string r ≡ gimli (string state) ⌝ }
+{
+    standing_permutation(state.known()).stored
+}
+
 #[derive(Clone, Copy)]
 pub struct StandingEngine {
     state: State,
@@ -149,7 +156,6 @@ pub impl Engine for StandingEngine as StandingGimli {
     }
 
     fn permute(&mut self) {
-        let standing = standing_permutation(self.state.known());
-        self.state = standing.stored;
+        self.state = permuted(self.state);
     }
 }

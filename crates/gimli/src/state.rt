@@ -77,7 +77,7 @@ impl State {
     }
 
     // The same state. A caller learns what its type says of it: four words of 32 bits to a row.
-    pub fn known(self) -> State
+    pub(crate) fn known(self) -> State
         ensures same { λ r. ⌜ r ≡ self ⌝ }
         ensures whole { λ _. ⌜ Whole self ⌝ }
     {
