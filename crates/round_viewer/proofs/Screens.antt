@@ -1,0 +1,23 @@
+-- What is shown for an input, from the answer to it.
+use mathlib.Core.Path.{_≡_, refl, ap, ap₂, _∙_}
+use mathlib.Core.List.{List}
+use Prim.Native.Nat.{ℕ}
+use Rattle.std.specs.Written.{digits}
+use Rattle.std.specs.declared.option.Option.the-variants.{Some, None}
+use Rattle.gimli.specs.Permutation.{first-rounds}
+use Rattle.gimli.specs.Strings.{state}
+use Rattle.gimli.specs.declared.state.State.{State}
+use Rattle.round_viewer.specs.Lines.{lines, refusal}
+use Rattle.round_viewer.specs.Requests.{Asks}
+use Rattle.round_viewer.specs.Views.{Answers, Views}
+use Rattle.round_viewer.proofs.Requests.{asks-one}
+
+pub rows-shown : (input : List ℕ) (t : State) → Answers input (Some t) → Views input (lines t)
+rows-shown input t (n, s, asks, is) = record {
+  shown = λ m r asked. let one = asks-one input n m s r asks asked in ap lines (is ∙ ap₂ (λ (k : ℕ) (l : List ℕ). first-rounds k (state l)) (one .0) (one .1));
+  refused = λ none. absurd (none n s asks);
+}
+
+pub refusal-shown : (input : List ℕ) → Answers input None → Views input (refusal 11)
+unfolding refusal digits
+refusal-shown input none = record { shown = λ n s asked. absurd (none n s asked); refused = λ _. refl }

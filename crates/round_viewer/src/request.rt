@@ -1,0 +1,74 @@
+// Requests, read from the bytes that they are written in.
+ghost use mathlib.Core.List.{[], _∷_};
+ghost use Prim.Native.Nat.{_<_};
+ghost use Rattle.engine.specs.Strings.{Whole};
+ghost use Rattle.round_viewer.specs.Hex.{digit, pair, hex};
+ghost use Rattle.round_viewer.specs.Requests.{Rounds, decimal};
+ghost use Rattle.round_viewer.specs.Readers.{Reads, Parses};
+use engine::engine::WIDTH;
+
+// The bytes of a request: two decimal digits, a space, two hex digits for each byte of the string, a newline.
+pub const LENGTH: usize = 4 + 2 * WIDTH;
+
+// How many rounds to run, and the string of the state to run them on.
+#[derive(Clone, Copy)]
+pub struct Request {
+    pub rounds: u32,
+    pub string: [u8; WIDTH],
+}
+
+pub fn hex_digit(c: char) -> Option<u8>
+    ensures { λ r. ⌜ Reads (λ d. d < 16) digit c r ⌝ }
+{
+    match c {
+        '0'..='9' => Some((c as u32 - '0' as u32) as u8),
+        'a'..='f' => Some((c as u32 - 'a' as u32 + 10) as u8),
+        _ => None,
+    }
+}
+
+// The byte of two hex digits.
+pub fn hex_byte(high: char, low: char) -> Option<u8>
+    ensures { λ r. ⌜ Reads (λ b. b < 256) pair (high ∷ low ∷ []) r ⌝ }
+{
+    Some(16 * hex_digit(high)? + hex_digit(low)?)
+}
+
+// The string of 96 hex digits.
+pub fn hex_string(digits: &[u8]) -> Option<[u8; WIDTH]>
+    ensures { λ r. ⌜ Reads Whole hex (now (digits .entry)) r ⌝ }
+{
+    if digits.len() != 2 * WIDTH {
+        return None;
+    }
+    let mut string = [0; WIDTH];
+    for place in 0..WIDTH {
+        let high = digits[2 * place] as char;
+        let low = digits[2 * place + 1] as char;
+        string[place] = hex_byte(high, low)?;
+    }
+    Some(string)
+}
+
+// The number of rounds, of two decimal digits.
+pub fn round_count(tens: char, ones: char) -> Option<u32>
+    ensures { λ r. ⌜ Reads Rounds decimal (tens ∷ ones ∷ []) r ⌝ }
+{
+    let rounds = 10 * tens.to_digit(10)? + ones.to_digit(10)?;
+    match rounds {
+        1..=24 => Some(rounds),
+        _ => None,
+    }
+}
+
+// The request that the input is.
+pub fn parse(input: &[u8]) -> Option<Request>
+    ensures { λ r. ⌜ Parses (now (input .entry)) r ⌝ }
+{
+    if input.len() != LENGTH || input[2] != b' ' || input[LENGTH - 1] != b'\n' {
+        return None;
+    }
+    let rounds = round_count(input[0] as char, input[1] as char)?;
+    let string = hex_string(&input[3..LENGTH - 1])?;
+    Some(Request { rounds, string })
+}
