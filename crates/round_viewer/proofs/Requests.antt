@@ -1,7 +1,7 @@
 -- The parts of a request, and that an input is the request of one number and one string at most.
 use mathlib.Core.Path.{_≡_, sym, ap, _∙_}
 use mathlib.Core.List.{List, [], _∷_, _++_}
-use Prim.Native.Nat.{ℕ, _+_, _*_, _/_, _%_}
+use Prim.Native.Nat.{ℕ, suc, _+_, _*_, _/_, _%_}
 use native.Mathlib.Omega.{arith}
 use lib.ListN.{length, getD, take, drop}
 use Rattle.std.proofs.shelf.Lists.{length-append, getD-at, take-at, take-all, take-more}
@@ -10,16 +10,19 @@ use Rattle.round_viewer.specs.Hex.{hex}
 use Rattle.round_viewer.specs.Requests.{decimal, request, Asks}
 use Rattle.round_viewer.proofs.Hex.{hex-long, hex-same}
 
--- an input of a request's length, taken apart
-in-parts : (input : List ℕ) → length input ≡ 100 → input ≡ getD input 0 0 ∷ getD input 1 0 ∷ getD input 2 0 ∷ (take 96 (drop 3 input) ++ getD input 99 0 ∷ [])
-in-parts [] long = absurd (omega arith)
-in-parts (a ∷ []) long = absurd (omega arith)
-in-parts (a ∷ b ∷ []) long = absurd (omega arith)
-in-parts (a ∷ b ∷ c ∷ rest) long = ap (λ (l : List ℕ). a ∷ b ∷ c ∷ l) (sym (take-all 97 rest (omega arith)) ∙ take-more rest 96 0 (omega arith))
+-- an input of four bytes or more, taken apart: k bytes stand between the third and the last, which is at e
+module _ (k e : ℕ) where
+  in-parts : (input : List ℕ) → length input ≡ k + 4 → e ≡ k + 3 → input ≡ getD input 0 0 ∷ getD input 1 0 ∷ getD input 2 0 ∷ (take k (drop 3 input) ++ getD input e 0 ∷ [])
+  in-parts [] long last = absurd (omega arith)
+  in-parts (a ∷ []) long last = absurd (omega arith)
+  in-parts (a ∷ b ∷ []) long last = absurd (omega arith)
+  in-parts (a ∷ b ∷ c ∷ rest) long last =
+      let after : e ≡ suc (suc (suc k)) = omega arith in
+      rw after (ap (λ (l : List ℕ). a ∷ b ∷ c ∷ l) (sym (take-all (k + 1) rest (omega arith)) ∙ take-more rest k 0 (omega arith)))
 
-pub from-parts : (input : List ℕ) (n : ℕ) (s : List ℕ) → length input ≡ 100 → getD input 0 0 ∷ getD input 1 0 ∷ [] ≡ decimal n → getD input 2 0 ≡ 32 → take 96 (drop 3 input) ≡ hex s → getD input 99 0 ≡ 10 → input ≡ request n s
-from-parts input n s long count space digits end =
-    in-parts input long ∙ (λ i. getD (count i) 0 0 ∷ getD (count i) 1 0 ∷ space i ∷ (digits i ++ end i ∷ []))
+  pub from-parts : (input : List ℕ) (n : ℕ) (s : List ℕ) → length input ≡ k + 4 → e ≡ k + 3 → getD input 0 0 ∷ getD input 1 0 ∷ [] ≡ decimal n → getD input 2 0 ≡ 32 → take k (drop 3 input) ≡ hex s → getD input e 0 ≡ 10 → input ≡ request n s
+  from-parts input n s long last count space digits end =
+      in-parts input long last ∙ (λ i. getD (count i) 0 0 ∷ getD (count i) 1 0 ∷ space i ∷ (digits i ++ end i ∷ []))
 
 module _ (input : List ℕ) (n : ℕ) (s : List ℕ) (asks : Asks input n s) where
   digits-long : length (hex s) ≡ 96

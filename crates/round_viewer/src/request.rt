@@ -65,10 +65,10 @@ pub fn round_count(tens: char, ones: char) -> Option<u32>
 pub fn parse(input: &[u8]) -> Option<Request>
     ensures { λ r. ⌜ Parses (now (input .entry)) r ⌝ }
 {
-    if input.len() != LENGTH || input[2] != b' ' || input[LENGTH - 1] != b'\n' {
+    let [tens, ones, b' ', .., b'\n'] = input else {
         return None;
-    }
-    let rounds = round_count(input[0] as char, input[1] as char)?;
-    let string = hex_string(&input[3..LENGTH - 1])?;
+    };
+    let rounds = round_count(*tens as char, *ones as char)?;
+    let string = hex_string(&input[3..input.len() - 1])?;
     Some(Request { rounds, string })
 }
