@@ -4,6 +4,8 @@ ghost use Rattle.std.specs.Vec.{made};
 
 mod lines;
 mod request;
+#[cfg(test)]
+mod tests;
 mod view;
 
 use lines::ScreenDisplay;

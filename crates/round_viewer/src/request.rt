@@ -17,25 +17,26 @@ pub struct Request {
     pub string: [u8; WIDTH],
 }
 
-pub fn hex_digit(c: char) -> Option<u8>
+// The number that a hex digit stands for.
+fn hex_digit(c: char) -> Option<u8>
     ensures { λ r. ⌜ Reads (λ d. d < 16) digit c r ⌝ }
 {
     match c {
-        '0'..='9' => Some((c as u32 - '0' as u32) as u8),
-        'a'..='f' => Some((c as u32 - 'a' as u32 + 10) as u8),
+        '0'..='9' => Some(c as u8 - b'0'),
+        'a'..='f' => Some(c as u8 - b'a' + 10),
         _ => None,
     }
 }
 
 // The byte of two hex digits.
-pub fn hex_byte(high: char, low: char) -> Option<u8>
+fn hex_byte(high: char, low: char) -> Option<u8>
     ensures { λ r. ⌜ Reads (λ b. b < 256) pair (high ∷ low ∷ []) r ⌝ }
 {
     Some(16 * hex_digit(high)? + hex_digit(low)?)
 }
 
 // The string of 96 hex digits.
-pub fn hex_string(digits: &[u8]) -> Option<[u8; WIDTH]>
+fn hex_string(digits: &[u8]) -> Option<[u8; WIDTH]>
     ensures { λ r. ⌜ Reads Whole hex (now (digits .entry)) r ⌝ }
 {
     if digits.len() != 2 * WIDTH {
@@ -51,7 +52,7 @@ pub fn hex_string(digits: &[u8]) -> Option<[u8; WIDTH]>
 }
 
 // The number of rounds, of two decimal digits.
-pub fn round_count(tens: char, ones: char) -> Option<u32>
+fn round_count(tens: char, ones: char) -> Option<u32>
     ensures { λ r. ⌜ Reads Rounds decimal (tens ∷ ones ∷ []) r ⌝ }
 {
     let rounds = 10 * tens.to_digit(10)? + ones.to_digit(10)?;
