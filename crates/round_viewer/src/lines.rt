@@ -41,14 +41,8 @@ impl fmt::Display for HexWord as HexWordDisplay {
 
     fn fmt<W: fmt::Write>(&self, f: &mut fmt::Formatter<W>) -> fmt::Result {
         let [a, b, c, d] = self.0.to_be_bytes();
-        write!(
-            f,
-            "{}{}{}{}",
-            HexByte(a),
-            HexByte(b),
-            HexByte(c),
-            HexByte(d)
-        )
+        let (a, b, c, d) = (HexByte(a), HexByte(b), HexByte(c), HexByte(d));
+        write!(f, "{a}{b}{c}{d}")
     }
 }
 
@@ -61,14 +55,8 @@ impl fmt::Display for Line as LineDisplay {
 
     fn fmt<W: fmt::Write>(&self, f: &mut fmt::Formatter<W>) -> fmt::Result {
         let [a, b, c, d] = self.0;
-        writeln!(
-            f,
-            "{} {} {} {}",
-            HexWord(a),
-            HexWord(b),
-            HexWord(c),
-            HexWord(d)
-        )
+        let (a, b, c, d) = (HexWord(a), HexWord(b), HexWord(c), HexWord(d));
+        writeln!(f, "{a} {b} {c} {d}")
     }
 }
 

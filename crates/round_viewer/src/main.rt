@@ -13,10 +13,10 @@ use request::LENGTH;
 use std::io;
 use std::io::Read;
 
-// A byte more than a request has: an input that fills it is too long.
+// 101, a byte more than a request has: an input of so many bytes is too long.
 const LIMIT: usize = LENGTH + 1;
 
-// Fills the buffer from standard input, and gives the number of bytes read. Each turn reads a byte or is the last.
+// Reads standard input up to its end or the buffer's, and gives the number of bytes read. Each turn reads a byte or is the last.
 fn read_input(rt: &LibcRuntime, buffer: &mut [u8; LIMIT]) -> io::Result<usize>
     ensures { λ r. ⌜ made r (λ filled. filled ≤ 101) ⌝ }
 {
