@@ -19,7 +19,7 @@ abbrev pub line : List ℕ → List ℕ
 line r = word (getD r 0 0) ++ 32 ∷ word (getD r 1 0) ++ 32 ∷ word (getD r 2 0) ++ 32 ∷ word (getD r 3 0) ++ 10 ∷ []
 
 -- the rows of a state, from the top
-unfoldable pub lines : State → List ℕ
+abbrev pub lines : State → List ℕ
 lines s = line (s .top) ++ line (s .middle) ++ line (s .bottom)
 
 -- a refusal, by its number

@@ -13,12 +13,12 @@ pub enum Screen {
 }
 
 // The state that the input asks for.
-fn answer(input: &[u8]) -> Option<State>
+fn answer(input: &[u8]) -> Result<State, Refusal>
     ensures { λ r. ⌜ Answers (now (input .entry)) r ⌝ }
 {
-    let request = parse(input)?;
-    let start = State::from_bytes(&request.string)?;
-    Some(first_rounds(start, request.rounds))
+    let request = parse(input).ok_or(Refusal::ViewerInput)?;
+    let start = State::from_bytes(&request.string).ok_or(Refusal::ViewerInput)?;
+    Ok(first_rounds(start, request.rounds))
 }
 
 // What to show for an input, whatever it is; displayed, it is every byte of the output.
@@ -26,7 +26,7 @@ pub fn view(input: &[u8]) -> Screen
     ensures { λ r. ⌜ Views (now (input .entry)) (text r) ⌝ }
 {
     match answer(input) {
-        Some(state) => Screen::Rows(state),
-        None => Screen::Refused(Refusal::ViewerInput),
+        Ok(state) => Screen::Rows(state),
+        Err(refusal) => Screen::Refused(refusal),
     }
 }

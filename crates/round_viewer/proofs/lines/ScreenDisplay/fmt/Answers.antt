@@ -1,8 +1,7 @@
-use Rattle.round_viewer.specs.Lines.{lines, refusal}
+use Rattle.round_viewer.specs.Lines.{refusal}
 use Rattle.round_viewer.proofs.lines.ScreenDisplay.fmt.Needs as need
 
 pub returns-in-Rows : need.returns-in-Rows
-unfolding lines
 returns-in-Rows g c = simp (c .in-Rows .is) (c .write .ensures .shows)
 
 pub returns-in-Refused : need.returns-in-Refused
