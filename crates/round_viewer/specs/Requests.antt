@@ -14,9 +14,13 @@ pub record Rounds (n : ℕ) : Type 0 where
 abbrev pub decimal : ℕ → List ℕ
 decimal n = (48 + n / 10) ∷ (48 + n % 10) ∷ []
 
--- the request for n rounds on the string s: the number, a space, the string's hex digits, a newline
+-- the layout of a request: a number's two digits, a space, a string's digits, a newline
+abbrev pub layout : ℕ → ℕ → List ℕ → List ℕ
+layout tens ones digits = tens ∷ ones ∷ 32 ∷ (digits ++ 10 ∷ [])
+
+-- the request for n rounds on the string s
 abbrev pub request : ℕ → List ℕ → List ℕ
-request n s = decimal n ++ 32 ∷ hex s ++ 10 ∷ []
+request n s = layout (48 + n / 10) (48 + n % 10) (hex s)
 
 -- the input asks for n rounds on the state whose string is s
 pub record Asks (input : List ℕ) (n : ℕ) (s : List ℕ) : Type 0 where

@@ -4,7 +4,7 @@ ghost use Prim.Native.Nat.{_<_};
 ghost use Rattle.engine.specs.Strings.{Whole};
 ghost use Rattle.round_viewer.specs.Hex.{digit, pair, hex};
 ghost use Rattle.round_viewer.specs.Requests.{Rounds, decimal};
-ghost use Rattle.round_viewer.specs.Readers.{Reads, Parses};
+ghost use Rattle.round_viewer.specs.Readers.{Reads, Parts, Parses};
 use engine::engine::WIDTH;
 
 // The bytes of a request: two decimal digits, a space, two hex digits for each byte of the string, a newline.
@@ -62,14 +62,23 @@ fn round_count(tens: char, ones: char) -> Option<u32>
     }
 }
 
-// The request that the input is.
-pub fn parse(input: &[u8]) -> Option<Request>
-    ensures { λ r. ⌜ Parses (now (input .entry)) r ⌝ }
+// The parts of an input that is laid out as a request: the number's two digits, and the string's digits.
+fn parts(input: &[u8]) -> Option<(char, char, &[u8])>
+    ensures { λ r. ⌜ Parts (now (input .entry)) r ⌝ }
 {
     let [tens, ones, b' ', .., b'\n'] = input else {
         return None;
     };
-    let rounds = round_count(*tens as char, *ones as char)?;
-    let string = hex_string(&input[3..input.len() - 1])?;
+    let digits = &input[3..input.len() - 1];
+    Some((*tens as char, *ones as char, digits))
+}
+
+// The request that the input is.
+pub fn parse(input: &[u8]) -> Option<Request>
+    ensures { λ r. ⌜ Parses (now (input .entry)) r ⌝ }
+{
+    let (tens, ones, digits) = parts(input)?;
+    let rounds = round_count(tens, ones)?;
+    let string = hex_string(digits)?;
     Some(Request { rounds, string })
 }
