@@ -21,5 +21,5 @@ rows-shown input t (n, s, asks, is) = record {
 }
 
 pub refusal-shown : (input : List ℕ) (e : Refusal) → Answers input (Err e) → Views input (refusal (number e))
-unfolding refusal digits
+unfolding digits
 refusal-shown input e (is, none) = record { shown = λ n s asked. absurd (none n s asked); refused = λ _. ap refusal is }

@@ -23,7 +23,7 @@ abbrev pub lines : State → List ℕ
 lines s = line (s .top) ++ line (s .middle) ++ line (s .bottom)
 
 -- a refusal, by its number
-unfoldable pub refusal : ℕ → List ℕ
+abbrev pub refusal : ℕ → List ℕ
 refusal n = codes "refused " ++ decimal n ++ codes "\n"
 
 -- a screen as it is displayed
