@@ -3,9 +3,8 @@ ghost use mathlib.Core.Path.{_≡_};
 ghost use Prim.Native.Nat.{_<_};
 ghost use Rattle.std.specs.declared.option.Option.the-variants.{Some};
 ghost use Rattle.round_viewer.specs.Hex.{digit, pair};
-ghost use Rattle.round_viewer.specs.Lines.{word, line, lines, text};
+ghost use Rattle.round_viewer.specs.Lines.{word, line, text};
 use crate::view::Screen;
-use gimli::state::State;
 use std::fmt;
 
 // The character of a hex digit.
@@ -61,27 +60,12 @@ impl fmt::Display for Line as LineDisplay {
     }
 }
 
-// A state that is shown as three lines.
-#[derive(Clone, Copy)]
-struct Lines(State);
-
-impl fmt::Display for Lines as LinesDisplay {
-    ghost shown = { λ s. Some (lines (s .0)) };
-
-    fn fmt<W: fmt::Write>(&self, f: &mut fmt::Formatter<W>) -> fmt::Result {
-        let top = Line(self.0.top);
-        let middle = Line(self.0.middle);
-        let bottom = Line(self.0.bottom);
-        write!(f, "{top}{middle}{bottom}")
-    }
-}
-
 pub impl fmt::Display for Screen as ScreenDisplay {
     ghost shown = { λ s. Some (text s) };
 
     fn fmt<W: fmt::Write>(&self, f: &mut fmt::Formatter<W>) -> fmt::Result {
         match self {
-            Screen::Rows(state) => write!(f, "{}", Lines(*state)),
+            Screen::Rows(s) => write!(f, "{}{}{}", Line(s.top), Line(s.middle), Line(s.bottom)),
             Screen::Refused(refusal) => writeln!(f, "refused {}", refusal.number()),
         }
     }
