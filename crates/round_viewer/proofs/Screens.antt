@@ -10,7 +10,6 @@ use Rattle.gimli.specs.Permutation.{first-rounds}
 use Rattle.gimli.specs.Strings.{state}
 use Rattle.gimli.specs.declared.state.State.{State}
 use Rattle.round_viewer.specs.Lines.{lines, refusal}
-use Rattle.round_viewer.specs.Requests.{Asks}
 use Rattle.round_viewer.specs.Views.{Answers, Views}
 use Rattle.round_viewer.proofs.Requests.{asks-one}
 

@@ -5,7 +5,7 @@ use Prim.Native.Nat.{ℕ, _+_, _/_, _%_}
 use lib.Dec.{ltb}
 use Rattle.std.specs.shelf.Lists.{joined}
 
--- the character of a digit below 16: the digits from '0' on, the letters from 'a' on
+-- the character of a digit below 16: '0' is 48, and 'a', the digit ten, is 97
 abbrev pub digit : ℕ → ℕ
 digit d = cond (ltb d 10) (48 + d) (87 + d)
 

@@ -1,6 +1,6 @@
 -- What is shown: a state as three lines, or a refusal as one.
 use mathlib.Core.List.{List, [], _∷_, _++_}
-use Prim.Native.Nat.{ℕ, _/_, _%_}
+use Prim.Native.Nat.{ℕ, _/_, _%_, _^_}
 use lib.Chars.{codes}
 use lib.ListN.{getD}
 use Rattle.std.specs.Written.{decimal}
@@ -12,7 +12,7 @@ use Rattle.round_viewer.specs.declared.view.Screen.the-variants.{Rows, Refused
 
 -- the eight hex digits of a word, the highest first
 abbrev pub word : ℕ → List ℕ
-word w = hex (w / 16777216 % 256 ∷ w / 65536 % 256 ∷ w / 256 % 256 ∷ w % 256 ∷ [])
+word w = hex (w / 2 ^ 24 % 256 ∷ w / 2 ^ 16 % 256 ∷ w / 2 ^ 8 % 256 ∷ w % 256 ∷ [])
 
 -- a row: its four words, spaces between them, a newline
 abbrev pub line : List ℕ → List ℕ

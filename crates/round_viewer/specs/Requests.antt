@@ -14,13 +14,13 @@ pub record Rounds (n : ℕ) : Type 0 where
 abbrev pub decimal : ℕ → List ℕ
 decimal n = (48 + n / 10) ∷ (48 + n % 10) ∷ []
 
--- the layout of a request: a number's two digits, a space, a string's digits, a newline
-abbrev pub layout : ℕ → ℕ → List ℕ → List ℕ
-layout tens ones digits = tens ∷ ones ∷ 32 ∷ (digits ++ 10 ∷ [])
+-- the layout of a request: the digits of a number, a space, the digits of a string, a newline
+abbrev pub layout : List ℕ → List ℕ → List ℕ
+layout count digits = count ++ 32 ∷ digits ++ 10 ∷ []
 
 -- the request for n rounds on the string s
 abbrev pub request : ℕ → List ℕ → List ℕ
-request n s = layout (48 + n / 10) (48 + n % 10) (hex s)
+request n s = layout (decimal n) (hex s)
 
 -- the input asks for n rounds on the state whose string is s
 pub record Asks (input : List ℕ) (n : ℕ) (s : List ℕ) : Type 0 where
