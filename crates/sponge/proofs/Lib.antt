@@ -1,0 +1,4 @@
+pub mod Absorbing
+pub mod Advance
+pub mod Squeezing
+pub mod Within

@@ -1,0 +1,89 @@
+// A sponge moves from call to call, and holds its engine by value.
+ghost use mathlib.Core.Path.{_≡_};
+ghost use Prim.Native.Nat.{_%_};
+ghost use lib.ListN.{length};
+ghost use Rattle.engine.specs.Strings.{zeros};
+ghost use Rattle.sponge.specs.Blocks.{rate};
+ghost use Rattle.sponge.specs.Calls.{Absorbs, Pads, Squeezes};
+ghost use Rattle.sponge.specs.Steps.{at, standing, absorb-piece, squeeze-bytes, squeeze-state};
+use crate::block::absorb_byte;
+use crate::block::advance;
+use crate::block::byte_at;
+use crate::block::xor_in;
+use engine::engine::Engine;
+use engine::engine::WIDTH;
+
+pub struct Sponge<E> {
+    pub engine: E,
+    // where the next byte goes, or comes from; read modulo the rate
+    pub place: usize,
+}
+
+impl<E: Engine> Sponge<E> {
+    // A sponge of zeros, whatever the engine meant.
+    pub fn new(mut engine: E) -> Sponge<E>
+        ensures { λ r. ⌜ standing meaning r ≡ at zeros 0 ⌝ }
+    {
+        engine.clear();
+        Sponge { engine, place: 0 }
+    }
+
+    // Takes in the next piece of a string.
+    pub fn absorb(self, piece: &[u8]) -> Sponge<E>
+        ensures { λ r. ⌜ Absorbs rule (standing meaning self) (now (piece .entry)) (standing meaning r) ⌝ }
+    {
+        let Sponge { mut engine, place } = self;
+        let place = absorb_bytes(&mut engine, place, piece);
+        Sponge { engine, place }
+    }
+
+    // Ends the last block of a string.
+    pub fn pad(self) -> Sponge<E>
+        ensures { λ r. ⌜ Pads rule (standing meaning self) (standing meaning r) ⌝ }
+    {
+        let Sponge { mut engine, place } = self;
+        xor_in(&mut engine, place, 1);
+        let _ = engine.xor_byte(WIDTH - 1, 1);
+        engine.permute();
+        Sponge { engine, place: 0 }
+    }
+
+    // Fills a buffer with the next bytes that the state gives.
+    pub fn squeeze(self, out: &mut [u8]) -> Sponge<E>
+        ensures { λ r. ⌜ Squeezes rule (standing meaning self) (now (out .exit)) (standing meaning r) ⌝ }
+    {
+        let Sponge { mut engine, place } = self;
+        let place = squeeze_bytes(&mut engine, place, out);
+        Sponge { engine, place }
+    }
+
+    // The engine, cleared.
+    pub fn into_engine(self) -> E
+        ensures { λ r. ⌜ meaning r ≡ zeros ⌝ }
+    {
+        let Sponge { mut engine, place: _ } = self;
+        engine.clear();
+        engine
+    }
+}
+
+// The engine is lent here: a sponge that moves at each byte would be copied at each byte.
+fn absorb_bytes<E: Engine>(engine: &mut E, mut place: usize, piece: &[u8]) -> usize
+    ensures { λ r. ⌜ at (meaning (now (engine .exit))) (r % rate) ≡ absorb-piece rule (at (meaning (now (engine .entry))) (place % rate)) (now (piece .entry)) ⌝ }
+{
+    for b in piece {
+        place = absorb_byte(engine, place, *b);
+    }
+    place
+}
+
+fn squeeze_bytes<E: Engine>(engine: &mut E, mut place: usize, out: &mut [u8]) -> usize
+    ensures bytes { λ _. ⌜ now (out .exit) ≡ squeeze-bytes rule (length (now (out .entry))) (at (meaning (now (engine .entry))) (place % rate)) ⌝ }
+    ensures state { λ r. ⌜ at (meaning (now (engine .exit))) (r % rate) ≡ squeeze-state rule (length (now (out .entry))) (at (meaning (now (engine .entry))) (place % rate)) ⌝ }
+{
+    for b in out.iter_mut() {
+        *b = byte_at(engine, place);
+        place = advance(engine, place);
+    }
+    place
+}
