@@ -112,7 +112,7 @@ module _ (rule : List ℕ → List ℕ) where
       ap (λ (i : ℕ). at (rule (xored (xored (mixed (after-full rule q s m) (drop (rate * q) m)) i 1) last-place 1)) 0) left
 
   -- pieces taken in one after another are their joined string taken in
-  absorb-piece-append : (p : State) (a b : List ℕ) → absorb-piece rule p (a ++ b) ≡ absorb-piece rule (absorb-piece rule p a) b
+  pub absorb-piece-append : (p : State) (a b : List ℕ) → absorb-piece rule p (a ++ b) ≡ absorb-piece rule (absorb-piece rule p a) b
   unfolding absorb-piece
   absorb-piece-append p [] b = refl
   absorb-piece-append p (x ∷ a) b = absorb-piece-append (absorb-byte rule p x) a b

@@ -1,0 +1,33 @@
+-- The strings of force words and notes.
+use mathlib.Core.Path.{_≡_}
+use mathlib.Core.List.{List, map, _∷_}
+use Prim.Native.Nat.{ℕ, _+_, _*_, _/_, _%_, _^_, _≤_, _<_, min}
+use lib.ListN.{length, getD}
+use Rattle.std.specs.Iters.{counting}
+use Rattle.std.specs.declared.result.Result.{Result}
+use Rattle.std.specs.declared.result.Result.the-variants.{Ok, Err}
+use Rattle.engine.specs.Refusals.{number}
+use Rattle.engine.specs.declared.refusal.Refusal.{Refusal}
+use Rattle.digest.specs.declared.force_word.ForceWord.{ForceWord}
+use Rattle.digest.specs.declared.note.Note.{Note}
+
+-- a force word: its four bytes, lowest first
+abbrev pub force-bytes : ForceWord → List ℕ
+force-bytes w = map (λ i. w .value / 2 ^ (8 * i) % 256) (counting 0 4)
+
+-- how many bytes a text may have
+abbrev pub longest : ℕ
+longest = 28
+
+-- how many bytes the text of a note has
+abbrev pub text-len : Note → ℕ
+text-len n = min (n .len) longest
+
+-- a note: its text's length, then its text
+unfoldable pub note-bytes : Note → List ℕ
+note-bytes n = text-len n ∷ map (λ i. getD (n .text) i 0 % 256) (counting 0 (text-len n))
+
+-- a text made into a note; one that is longer than 28 bytes is refused with 10
+abbrev pub Noted : List ℕ → Result Note Refusal → Type 0
+Noted text (Ok n) = (length text ≤ longest) × (note-bytes n ≡ length text ∷ text)
+Noted text (Err e) = (longest < length text) × (number e ≡ 10)

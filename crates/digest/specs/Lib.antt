@@ -1,0 +1,3 @@
+pub mod Digests
+pub mod Items
+pub mod Kinds
