@@ -26,8 +26,8 @@ module _ {I : Type 0} (bytes : I → List ℕ) (nonempty : (a : I) → 0 < lengt
   first-same : (a b : I) (s t : List ℕ) → bytes a ++ s ≡ bytes b ++ t → bytes a ≡ bytes b
   first-same a b s t e =
       elim (cases-lt (length (bytes a)) (length (bytes b))) [
-        inl h ↦ prefix-free a b _ (front-begins (bytes a) (bytes b) s t e (omega arith))
-      | inr h ↦ sym (prefix-free b a _ (front-begins (bytes b) (bytes a) t s (sym e) h))
+        | inl h ↦ prefix-free a b _ (front-begins (bytes a) (bytes b) s t e (omega arith))
+        | inr h ↦ sym (prefix-free b a _ (front-begins (bytes b) (bytes a) t s (sym e) h))
       ]
 
   pub lists-apart : (xs ys : List I) → joined bytes xs ≡ joined bytes ys → map bytes xs ≡ map bytes ys
@@ -37,5 +37,5 @@ module _ {I : Type 0} (bytes : I → List ℕ) (nonempty : (a : I) → 0 < lengt
   lists-apart (x ∷ xs) (y ∷ ys) e =
       let first : bytes x ≡ bytes y = first-same x y (joined bytes xs) (joined bytes ys) e in
       let rest : joined bytes xs ≡ joined bytes ys =
-              append-cancel-left (bytes y) _ _ (ap (λ (s : List ℕ). s ++ joined bytes xs) (sym first) ∙ e) in
+      append-cancel-left (bytes y) _ _ (ap (λ (s : List ℕ). s ++ joined bytes xs) (sym first) ∙ e) in
       ap (λ (s : List ℕ). s ∷ map bytes xs) first ∙ ap (λ (r : List (List ℕ)). bytes y ∷ r) (lists-apart xs ys rest)

@@ -2,14 +2,14 @@
 use mathlib.Core.Path.{_≡_, refl, sym, ap, _∙_}
 use mathlib.Core.List.{List, [], _∷_, _++_, map}
 use mathlib.Core.Logic.{_⊎_, inl, inr}
-use Prim.Native.Nat.{ℕ, zero, suc, _+_, _%_, _≤_, _<_, min}
+use Prim.Native.Nat.{ℕ, zero, suc, _+_, _-_, _%_, _≤_, _<_}
 use native.Mathlib.Omega.{arith}
-use lib.ListN.{length, getD}
+use lib.ListN.{length, getD, replicate}
 use Rattle.std.specs.Iters.{counting}
 use Rattle.std.proofs.shelf.Counted.{length-map-counting, getD-map-counting, fill-by-all}
-use Rattle.std.proofs.shelf.Lists.{getD-past}
+use Rattle.std.proofs.shelf.Lists.{getD-append-left, getD-past}
 use Rattle.std.proofs.shelf.Tests.{cases-lt}
-use Rattle.digest.specs.Kinds.{longest, text-len, note-bytes}
+use Rattle.digest.specs.Kinds.{longest, text-len, note-bytes, noted}
 use Rattle.digest.specs.declared.note.Note.{Note}
 use Rattle.digest.proofs.Apart.{whole-front}
 
@@ -32,8 +32,8 @@ unfolding note-bytes
 note-each-byte n zero = omega arith
 note-each-byte n (suc i) =
     elim (cases-lt i (text-len n)) [
-      inl h ↦ let e = getD-map-counting (letter n) 0 (text-len n) i i 0 h (omega arith) in omega arith
-    | inr h ↦ let e = getD-past (note-bytes n) (suc i) 0 (let l = length-note n in omega arith) in omega arith
+      | inl h ↦ let e = getD-map-counting (letter n) 0 (text-len n) i i 0 h (omega arith) in omega arith
+      | inr h ↦ let e = getD-past (note-bytes n) (suc i) 0 (let l = length-note n in omega arith) in omega arith
     ]
 
 pub note-prefix-free : (a b : Note) (t : List ℕ) → note-bytes a ++ t ≡ note-bytes b → note-bytes a ≡ note-bytes b
@@ -42,13 +42,18 @@ note-prefix-free a b t e =
     let same : text-len a ≡ text-len b = ap (λ (s : List ℕ). getD s 0 0) e in
     whole-front (note-bytes a) (note-bytes b) t (length-note a ∙ ap (λ (k : ℕ). k + 1) same ∙ sym (length-note b)) e
 
--- a note whose text begins with the bytes of a text
-pub note-of : (n : Note) (text : List ℕ) → n .len ≡ length text → length text ≤ longest → ((i : ℕ) → getD text i 0 < 256) → ((i : ℕ) → i < length text → getD (n .text) i 0 ≡ getD text i 0) → note-bytes n ≡ length text ∷ text
+-- the string of the note of a text
+pub note-bytes-noted : (text : List ℕ) → length text ≤ longest → ((i : ℕ) → getD text i 0 < 256) → note-bytes (noted text) ≡ length text ∷ text
 unfolding note-bytes
-note-of n text long fits small same =
+note-bytes-noted text fits small =
+    let n = noted text in
     let k : text-len n ≡ length text = omega arith in
     let letters : text ≡ map (letter n) (counting 0 (length text)) =
-            fill-by-all (letter n) text (length text) 0 refl (λ i h. let e = same i h in let f = small i in omega arith) in
+    fill-by-all (letter n) text (length text) 0 refl
+    (λ i h.
+    let front = getD-append-left text (replicate (longest - length text) 0) 0 i h in
+    let below = small i in
+    omega arith) in
     ap (λ (j : ℕ). j ∷ map (letter n) (counting 0 j)) k ∙ ap (λ (s : List ℕ). length text ∷ s) (sym letters)
 
 pub note-nonempty : (n : Note) → 0 < length (note-bytes n)

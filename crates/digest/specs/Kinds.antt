@@ -1,8 +1,8 @@
 -- The strings of force words and notes.
 use mathlib.Core.Path.{_≡_}
-use mathlib.Core.List.{List, map, _∷_}
-use Prim.Native.Nat.{ℕ, _+_, _*_, _/_, _%_, _^_, _≤_, _<_, min}
-use lib.ListN.{length, getD}
+use mathlib.Core.List.{List, map, _∷_, _++_}
+use Prim.Native.Nat.{ℕ, _-_, _*_, _/_, _%_, _^_, _≤_, _<_, min}
+use lib.ListN.{length, getD, replicate}
 use Rattle.std.specs.Iters.{counting}
 use Rattle.std.specs.declared.result.Result.{Result}
 use Rattle.std.specs.declared.result.Result.the-variants.{Ok, Err}
@@ -27,7 +27,11 @@ text-len n = min (n .len) longest
 unfoldable pub note-bytes : Note → List ℕ
 note-bytes n = text-len n ∷ map (λ i. getD (n .text) i 0 % 256) (counting 0 (text-len n))
 
+-- the note of a text: behind the text stand zeros
+abbrev pub noted : List ℕ → Note
+noted text = record { len = length text; text = text ++ replicate (longest - length text) 0 }
+
 -- a text made into a note; one that is longer than 28 bytes is refused with 10
 abbrev pub Noted : List ℕ → Result Note Refusal → Type 0
-Noted text (Ok n) = (length text ≤ longest) × (note-bytes n ≡ length text ∷ text)
+Noted text (Ok n) = (length text ≤ longest) × (n ≡ noted text) × (note-bytes n ≡ length text ∷ text)
 Noted text (Err e) = (longest < length text) × (number e ≡ 10)

@@ -23,7 +23,9 @@ impl<E: Engine> Drawing<E> {
         ensures drawn { λ r. ⌜ ((m : List ℕ) (n : ℕ) → Drawn meaning rule self m n → Drawn meaning rule r m (n + length (now (out .exit)))) ⌝ }
     {
         let Drawing { sponge } = self;
-        Drawing { sponge: sponge.squeeze(out) }
+        Drawing {
+            sponge: sponge.squeeze(out),
+        }
     }
 
     // Gives the digest up. The engine comes back cleared.

@@ -5,6 +5,7 @@ ghost use Prim.Native.Nat.{ℕ, _%_};
 ghost use Rattle.std.specs.Joined.{joined};
 ghost use Rattle.engine.specs.Strings.{zeros};
 ghost use Rattle.sponge.specs.Blocks.{rate};
+ghost use Rattle.sponge.specs.Calls.{Absorbs};
 ghost use Rattle.sponge.specs.Steps.{at, standing, absorb-piece, padded};
 ghost use Rattle.digest.specs.Digests.{Fed, Drawn};
 use crate::drawing::Drawing;
@@ -22,7 +23,9 @@ impl<E: Engine> Feeding<E> {
     pub fn begin(engine: E) -> Feeding<E>
         ensures { λ r. ⌜ Fed meaning rule r [] ⌝ }
     {
-        Feeding { sponge: Sponge::new(engine) }
+        Feeding {
+            sponge: Sponge::new(engine),
+        }
     }
 
     // Feeds the next piece of the string.
@@ -31,7 +34,9 @@ impl<E: Engine> Feeding<E> {
         ensures fed { λ r. ⌜ ((m : List ℕ) → Fed meaning rule self m → Fed meaning rule r (m ++ now (piece .entry))) ⌝ }
     {
         let Feeding { sponge } = self;
-        Feeding { sponge: sponge.absorb(piece) }
+        Feeding {
+            sponge: sponge.absorb(piece),
+        }
     }
 
     // Feeds the strings of items of one kind, one after another.
@@ -41,11 +46,11 @@ impl<E: Engine> Feeding<E> {
         ensures apart { λ _. ⌜ ((others : List I) → joined bytes (now (items .entry)) ≡ joined bytes others → map bytes (now (items .entry)) ≡ map bytes others) ⌝ }
     {
         let Feeding { sponge } = self;
-        let Sponge { mut engine, mut place } = sponge;
-        for item in items {
-            place = feed_item(&mut engine, place, item);
+        let Sponge { mut engine, place } = sponge;
+        let place = feed_items(&mut engine, place, items);
+        Feeding {
+            sponge: Sponge { engine, place },
         }
-        Feeding { sponge: Sponge { engine, place } }
     }
 
     // Ends the string.
@@ -54,7 +59,9 @@ impl<E: Engine> Feeding<E> {
         ensures fed { λ r. ⌜ ((m : List ℕ) → Fed meaning rule self m → Drawn meaning rule r m 0) ⌝ }
     {
         let Feeding { sponge } = self;
-        Drawing { sponge: sponge.pad() }
+        Drawing {
+            sponge: sponge.pad(),
+        }
     }
 
     // Gives the digest up. The engine comes back cleared.
@@ -66,14 +73,23 @@ impl<E: Engine> Feeding<E> {
     }
 }
 
-// Takes in the string of one item, and answers the next place.
+// The strings of a list, and of one item, taken in at a place of the block; the answer is the next place.
+
+fn feed_items<E: Engine, I: Item>(engine: &mut E, mut place: usize, items: &[I]) -> usize
+    ensures absorbs { λ r. ⌜ Absorbs rule (at (meaning (now (engine .entry))) (place % rate)) (joined bytes (now (items .entry))) (at (meaning (now (engine .exit))) (r % rate)) ⌝ }
+    ensures apart { λ _. ⌜ ((others : List I) → joined bytes (now (items .entry)) ≡ joined bytes others → map bytes (now (items .entry)) ≡ map bytes others) ⌝ }
+{
+    for item in items {
+        place = feed_item(engine, place, item);
+    }
+    place
+}
+
 fn feed_item<E: Engine, I: Item>(engine: &mut E, mut place: usize, item: &I) -> usize
     ensures { λ r. ⌜ at (meaning (now (engine .exit))) (r % rate) ≡ absorb-piece rule (at (meaning (now (engine .entry))) (place % rate)) (bytes (now (item .entry))) ⌝ }
 {
     for i in 0..item.len() {
-        let Some(b) = item.byte(i) else {
-            unreachable()
-        };
+        let Some(b) = item.byte(i) else { unreachable() };
         place = absorb_byte(engine, place, b);
     }
     place

@@ -1,8 +1,9 @@
 // A note: a length byte, and a text of that many bytes.
 ghost use mathlib.Core.Path.{_≡_};
-ghost use Prim.Native.Nat.{ℕ, _<_, _≤_};
-ghost use lib.ListN.{length, getD};
-ghost use Rattle.digest.specs.Kinds.{text-len, note-bytes, Noted};
+ghost use mathlib.Core.List.{_++_};
+ghost use Prim.Native.Nat.{_-_, _≤_};
+ghost use lib.ListN.{length, replicate};
+ghost use Rattle.digest.specs.Kinds.{longest, text-len, note-bytes, Noted};
 use crate::item::Item;
 use engine::refusal::Refusal;
 
@@ -24,11 +25,14 @@ impl Note {
         if text.len() > LONGEST {
             return Err(Refusal::NoteLength);
         }
-        Ok(Note { len: text.len() as u8, text: with_zeros(text) })
+        Ok(Note {
+            len: text.len() as u8,
+            text: with_zeros(text),
+        })
     }
 
     // The number of bytes in the text.
-    pub fn text_len(&self) -> usize
+    fn text_len(&self) -> usize
         ensures { λ r. ⌜ r ≡ text-len (now (self .entry)) ⌝ }
     {
         LONGEST.min(self.len as usize)
@@ -37,13 +41,11 @@ impl Note {
 
 // A text of at most 28 bytes, followed by zeros.
 fn with_zeros(text: &[u8]) -> [u8; LONGEST]
-    requires { ⌜ length (now text) ≤ 28 ⌝ }
-    ensures { λ r. ⌜ ((k : ℕ) → k < length (now (text .entry)) → getD r k 0 ≡ getD (now (text .entry)) k 0) ⌝ }
+    requires { ⌜ length (now text) ≤ longest ⌝ }
+    ensures { λ r. ⌜ r ≡ now (text .entry) ++ replicate (longest - length (now (text .entry))) 0 ⌝ }
 {
     let mut all = [0; LONGEST];
-    for (i, b) in text.iter().enumerate() {
-        all[i] = *b;
-    }
+    all[0..text.len()].copy_from_slice(text);
     all
 }
 

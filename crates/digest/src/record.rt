@@ -14,3 +14,23 @@ pub fn digest_string<E: Engine>(engine: E, string: &[u8], out: &mut [u8]) -> E
     let drawing = Feeding::begin(engine).feed(string).end_feeding();
     drawing.draw(out).release()
 }
+
+// The long outputs of two records, on one engine. What is to be fed after the end of the first begins the second.
+pub fn digest_two<E: Engine>(
+    engine: E,
+    first: &[u8],
+    first_out: &mut [u8],
+    second: &[u8],
+    second_out: &mut [u8],
+) -> E
+    ensures first { λ _. ⌜ now («first_out» .exit) ≡ output rule (now (first .entry)) (length (now («first_out» .exit))) ⌝ }
+    ensures second { λ _. ⌜ now («second_out» .exit) ≡ output rule (now (second .entry)) (length (now («second_out» .exit))) ⌝ }
+    ensures cleared { λ r. ⌜ meaning r ≡ zeros ⌝ }
+{
+    let drawing = Feeding::begin(engine)
+        .feed(first)
+        .end_feeding()
+        .draw(first_out);
+    let feeding = Feeding::begin(drawing.release()).feed(second);
+    feeding.end_feeding().draw(second_out).release()
+}

@@ -68,31 +68,30 @@ module _ (rule : List ℕ → List ℕ) where
       let left : length (drop (rate * q) m) ≡ r = length-drop (rate * q) m ∙ omega arith in
       let block : drop (rate * q) m′ ≡ drop (rate * q) m ++ b ∷ [] = drop-append-le (rate * q) m (b ∷ []) (omega arith) in
       let filled : xored (mixed (after-full rule q s m) (drop (rate * q) m)) r b ≡ mixed (after-full rule q s m′) (drop (rate * q) m′) =
-              ap (λ (i : ℕ). xored (mixed (after-full rule q s m) (drop (rate * q) m)) i b) (sym left)
-              ∙ sym (mixed-push (after-full rule q s m) (drop (rate * q) m) b)
-              ∙ ap (λ (x : List ℕ). mixed (after-full rule q s m) x) (sym block)
-              ∙ ap (λ (x : List ℕ). mixed x (drop (rate * q) m′)) (sym (after-full-append q s m (b ∷ []) (omega arith))) in
+      ap (λ (i : ℕ). xored (mixed (after-full rule q s m) (drop (rate * q) m)) i b) (sym left)
+      ∙ sym (mixed-push (after-full rule q s m) (drop (rate * q) m) b)
+      ∙ ap (λ (x : List ℕ). mixed (after-full rule q s m) x) (sym block)
+      ∙ ap (λ (x : List ℕ). mixed x (drop (rate * q) m′)) (sym (after-full-append q s m (b ∷ []) (omega arith))) in
       let taken : absorb-byte rule (by-blocks s m) b ≡ advanced rule (at (mixed (after-full rule q s m′) (drop (rate * q) m′)) r) =
-              ap (λ (p : State). absorb-byte rule p b) (by-blocks-at s m q r refl refl)
-              ∙ ap (λ (x : List ℕ). advanced rule (at x r)) filled in
+      ap (λ (p : State). absorb-byte rule p b) (by-blocks-at s m q r refl refl)
+      ∙ ap (λ (x : List ℕ). advanced rule (at x r)) filled in
       elim (cases-eq (r + 1) rate) [
-        inl e ↦
-          let none : drop (rate * suc q) m′ ≡ [] = drop-all (rate * suc q) m′ (omega arith) in
-          let all : take rate (drop (rate * q) m′) ≡ drop (rate * q) m′ = take-all rate (drop (rate * q) m′) (simp length-drop (omega arith)) in
-          taken
-          ∙ advanced-end rule _ r e
-          ∙ ap (λ (x : List ℕ). at (rule (mixed (after-full rule q s m′) x)) 0) (sym all)
-          ∙ ap (λ (x : List ℕ). at x 0) (sym (after-full-more q s m′) ∙ sym (mixed-none _) ∙ ap (λ (x : List ℕ). mixed (after-full rule (suc q) s m′) x) (sym none))
-          ∙ sym (by-blocks-at s m′ (suc q) 0 (omega arith) (omega arith))
-      | inr e ↦
-          taken
-          ∙ advanced-within rule _ r e
-          ∙ sym (by-blocks-at s m′ q (r + 1) (omega arith) (omega arith))
+        | inl e ↦
+            let none : drop (rate * suc q) m′ ≡ [] = drop-all (rate * suc q) m′ (omega arith) in
+            let all : take rate (drop (rate * q) m′) ≡ drop (rate * q) m′ = take-all rate (drop (rate * q) m′) (simp length-drop (omega arith)) in
+            taken
+            ∙ advanced-end rule _ r e
+            ∙ ap (λ (x : List ℕ). at (rule (mixed (after-full rule q s m′) x)) 0) (sym all)
+            ∙ ap (λ (x : List ℕ). at x 0) (sym (after-full-more q s m′) ∙ sym (mixed-none _) ∙ ap (λ (x : List ℕ). mixed (after-full rule (suc q) s m′) x) (sym none))
+            ∙ sym (by-blocks-at s m′ (suc q) 0 (omega arith) (omega arith))
+        | inr e ↦
+            taken
+            ∙ advanced-within rule _ r e
+            ∙ sym (by-blocks-at s m′ q (r + 1) (omega arith) (omega arith))
       ]
 
   -- a piece more of a string
   by-blocks-append : (s a m : List ℕ) → absorb-piece rule (by-blocks s a) m ≡ by-blocks s (a ++ m)
-  unfolding absorb-piece
   by-blocks-append s a [] = ap (by-blocks s) (sym (append-nil a))
   by-blocks-append s a (b ∷ bs) =
       ap (λ (p : State). absorb-piece rule p bs) (by-blocks-push s a b)
@@ -113,7 +112,6 @@ module _ (rule : List ℕ → List ℕ) where
 
   -- pieces taken in one after another are their joined string taken in
   pub absorb-piece-append : (p : State) (a b : List ℕ) → absorb-piece rule p (a ++ b) ≡ absorb-piece rule (absorb-piece rule p a) b
-  unfolding absorb-piece
   absorb-piece-append p [] b = refl
   absorb-piece-append p (x ∷ a) b = absorb-piece-append (absorb-byte rule p x) a b
 

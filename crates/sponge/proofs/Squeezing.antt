@@ -48,16 +48,15 @@ module _ (rule : List ℕ → List ℕ) where
       let r = n % rate in
       let now = ap (advanced rule) (by-blocks-at s n q r refl refl) in
       elim (cases-eq (r + 1) rate) [
-        inl e ↦
-          now ∙ advanced-end rule _ r e
-          ∙ ap (λ (x : List ℕ). at x 0) (sym (turned-more q s))
-          ∙ sym (by-blocks-at s (n + 1) (suc q) 0 (omega arith) (omega arith))
-      | inr e ↦ now ∙ advanced-within rule _ r e ∙ sym (by-blocks-at s (n + 1) q (r + 1) (omega arith) (omega arith))
+        | inl e ↦
+            now ∙ advanced-end rule _ r e
+            ∙ ap (λ (x : List ℕ). at x 0) (sym (turned-more q s))
+            ∙ sym (by-blocks-at s (n + 1) (suc q) 0 (omega arith) (omega arith))
+        | inr e ↦ now ∙ advanced-within rule _ r e ∙ sym (by-blocks-at s (n + 1) q (r + 1) (omega arith) (omega arith))
       ]
 
   -- n bytes more given out, in one piece
   by-blocks-append : (s : List ℕ) (n k : ℕ) → squeeze-state rule k (by-blocks s n) ≡ by-blocks s (n + k)
-  unfolding squeeze-state
   by-blocks-append s n zero = ap (by-blocks s) (omega arith)
   by-blocks-append s n (suc k) =
       ap (squeeze-state rule k) (by-blocks-push s n) ∙ by-blocks-append s (n + 1) k ∙ ap (by-blocks s) (omega arith)
@@ -90,25 +89,24 @@ module _ (rule : List ℕ → List ℕ) where
         let front : length (squeezed rule q s) ≡ rate * q = length-squeezed q s w in
         let blocks : x ≡ squeezed rule q s ++ take rate (turned q s) = ap (λ (k : ℕ). squeezed rule k s) (omega arith) ∙ squeezed-more q s in
         let byte : getD x n 0 ≡ getD (turned q s) r 0 =
-                ap (λ (y : List ℕ). getD y n 0) blocks
-                ∙ getD-append-right (squeezed rule q s) (take rate (turned q s)) (rate * q) n 0 front (omega arith)
-                ∙ ap (λ (i : ℕ). getD (take rate (turned q s)) i 0) (omega arith)
-                ∙ getD-take rate (turned q s) r 0 (omega arith) in
+        ap (λ (y : List ℕ). getD y n 0) blocks
+        ∙ getD-append-right (squeezed rule q s) (take rate (turned q s)) (rate * q) n 0 front (omega arith)
+        ∙ ap (λ (i : ℕ). getD (take rate (turned q s)) i 0) (omega arith)
+        ∙ getD-take rate (turned q s) r 0 (omega arith) in
         let same : take (n + 1) (squeezed rule ((n + 1) / rate + 1) s) ≡ take (n + 1) x =
-                elim (cases-eq (r + 1) rate) [
-                  inl e ↦
-                    ap (λ (k : ℕ). take (n + 1) (squeezed rule k s)) (omega arith)
-                    ∙ ap (take (n + 1)) (squeezed-more (q + 1) s)
-                    ∙ take-append-le (n + 1) x _ (omega arith)
-                | inr e ↦ ap (λ (k : ℕ). take (n + 1) (squeezed rule k s)) (omega arith)
-                ] in
+        elim (cases-eq (r + 1) rate) [
+          | inl e ↦
+              ap (λ (k : ℕ). take (n + 1) (squeezed rule k s)) (omega arith)
+              ∙ ap (take (n + 1)) (squeezed-more (q + 1) s)
+              ∙ take-append-le (n + 1) x _ (omega arith)
+          | inr e ↦ ap (λ (k : ℕ). take (n + 1) (squeezed rule k s)) (omega arith)
+        ] in
         same
         ∙ take-more x n 0 (omega arith)
         ∙ ap (λ (b : ℕ). take n x ++ b ∷ []) byte
 
     -- a piece more of the stream
     stream-append : (s : List ℕ) (n k : ℕ) → Whole s → stream rule s (n + k) ≡ stream rule s n ++ squeeze-bytes rule k (by-blocks s n)
-    unfolding squeeze-bytes
     stream-append s n zero w = ap (stream rule s) (omega arith) ∙ sym (append-nil (stream rule s n))
     stream-append s n (suc k) w =
         ap (stream rule s) (omega arith)
@@ -119,23 +117,19 @@ module _ (rule : List ℕ → List ℕ) where
 
   -- the first of the bytes that are left, and what it leaves
   pub squeeze-bytes-next : (p : State) (n i : ℕ) → i < n → squeeze-bytes rule (n - i) p ≡ getD (p .string) (p .place) 0 ∷ squeeze-bytes rule (n - (i + 1)) (advanced rule p)
-  unfolding squeeze-bytes
   squeeze-bytes-next p n i h = let e : n - i ≡ suc (n - (i + 1)) = omega arith in ap (λ (k : ℕ). squeeze-bytes rule k p) e
 
   pub squeeze-state-next : (p : State) (n i : ℕ) → i < n → squeeze-state rule (n - i) p ≡ squeeze-state rule (n - (i + 1)) (advanced rule p)
-  unfolding squeeze-state
   squeeze-state-next p n i h = let e : n - i ≡ suc (n - (i + 1)) = omega arith in ap (λ (k : ℕ). squeeze-state rule k p) e
 
   -- bytes given out one piece after another are given out in one piece
   squeeze-state-add : (n k : ℕ) (p : State) → squeeze-state rule (n + k) p ≡ squeeze-state rule k (squeeze-state rule n p)
-  unfolding squeeze-state
   squeeze-state-add zero k p = let e : 0 + k ≡ k = omega arith in ap (λ (i : ℕ). squeeze-state rule i p) e
   squeeze-state-add (suc n) k p =
       let e : suc n + k ≡ suc (n + k) = omega arith in
       ap (λ (i : ℕ). squeeze-state rule i p) e ∙ squeeze-state-add n k (advanced rule p)
 
   squeeze-bytes-add : (n k : ℕ) (p : State) → squeeze-bytes rule (n + k) p ≡ squeeze-bytes rule n p ++ squeeze-bytes rule k (squeeze-state rule n p)
-  unfolding squeeze-bytes squeeze-state
   squeeze-bytes-add zero k p = let e : 0 + k ≡ k = omega arith in ap (λ (i : ℕ). squeeze-bytes rule i p) e
   squeeze-bytes-add (suc n) k p =
       let e : suc n + k ≡ suc (n + k) = omega arith in

@@ -22,7 +22,7 @@ standing meaning p = at (meaning (p .engine)) (p .place % rate)
 
 module _ (rule : List ℕ → List ℕ) where
   -- past a byte of a block: the next place, or, at the block's end, the rule and the first place
-  unfoldable pub advanced : State → State
+  abbrev pub advanced : State → State
   advanced p = cond (eqb (p .place + 1) rate) (at (rule (p .string)) 0) (at (p .string) (p .place + 1))
 
   -- one byte taken in
@@ -30,7 +30,7 @@ module _ (rule : List ℕ → List ℕ) where
   absorb-byte p b = advanced (at (xored (p .string) (p .place) b) (p .place))
 
   -- the bytes of a piece taken in, one after another
-  unfoldable pub absorb-piece : State → List ℕ → State
+  abbrev pub absorb-piece : State → List ℕ → State
   absorb-piece p [] = p
   absorb-piece p (b ∷ bs) = absorb-piece (absorb-byte p b) bs
 
@@ -39,12 +39,12 @@ module _ (rule : List ℕ → List ℕ) where
   padded p = at (rule (xored (xored (p .string) (p .place) 1) last-place 1)) 0
 
   -- the next n bytes out
-  unfoldable pub squeeze-bytes : ℕ → State → List ℕ
+  abbrev pub squeeze-bytes : ℕ → State → List ℕ
   squeeze-bytes zero p = []
   squeeze-bytes (suc n) p = getD (p .string) (p .place) 0 ∷ squeeze-bytes n (advanced p)
 
   -- what n bytes out leave
-  unfoldable pub squeeze-state : ℕ → State → State
+  abbrev pub squeeze-state : ℕ → State → State
   squeeze-state zero p = p
   squeeze-state (suc n) p = squeeze-state n (advanced p)
 

@@ -5,7 +5,7 @@ ghost use lib.ListN.{length};
 ghost use Rattle.engine.specs.Strings.{zeros};
 ghost use Rattle.sponge.specs.Blocks.{rate};
 ghost use Rattle.sponge.specs.Calls.{Absorbs, Pads, Squeezes};
-ghost use Rattle.sponge.specs.Steps.{at, standing, absorb-piece, squeeze-bytes, squeeze-state};
+ghost use Rattle.sponge.specs.Steps.{at, standing, padded};
 use crate::block::absorb_byte;
 use crate::block::advance;
 use crate::block::byte_at;
@@ -42,9 +42,7 @@ impl<E: Engine> Sponge<E> {
         ensures { λ r. ⌜ Pads rule (standing meaning self) (standing meaning r) ⌝ }
     {
         let Sponge { mut engine, place } = self;
-        xor_in(&mut engine, place, 1);
-        let _ = engine.xor_byte(WIDTH - 1, 1);
-        engine.permute();
+        end_block(&mut engine, place);
         Sponge { engine, place: 0 }
     }
 
@@ -61,15 +59,19 @@ impl<E: Engine> Sponge<E> {
     pub fn into_engine(self) -> E
         ensures { λ r. ⌜ meaning r ≡ zeros ⌝ }
     {
-        let Sponge { mut engine, place: _ } = self;
+        let Sponge {
+            mut engine,
+            place: _,
+        } = self;
         engine.clear();
         engine
     }
 }
 
-// The engine is lent here: a sponge that moves at each byte would be copied at each byte.
+// The engine is lent in these: a sponge that moves at each byte would be copied at each byte.
+
 fn absorb_bytes<E: Engine>(engine: &mut E, mut place: usize, piece: &[u8]) -> usize
-    ensures { λ r. ⌜ at (meaning (now (engine .exit))) (r % rate) ≡ absorb-piece rule (at (meaning (now (engine .entry))) (place % rate)) (now (piece .entry)) ⌝ }
+    ensures { λ r. ⌜ Absorbs rule (at (meaning (now (engine .entry))) (place % rate)) (now (piece .entry)) (at (meaning (now (engine .exit))) (r % rate)) ⌝ }
 {
     for b in piece {
         place = absorb_byte(engine, place, *b);
@@ -77,9 +79,16 @@ fn absorb_bytes<E: Engine>(engine: &mut E, mut place: usize, piece: &[u8]) -> us
     place
 }
 
+fn end_block<E: Engine>(engine: &mut E, place: usize)
+    ensures { λ _. ⌜ at (meaning (now (engine .exit))) 0 ≡ padded rule (at (meaning (now (engine .entry))) (place % rate)) ⌝ }
+{
+    xor_in(engine, place, 1);
+    let _ = engine.xor_byte(WIDTH - 1, 1);
+    engine.permute();
+}
+
 fn squeeze_bytes<E: Engine>(engine: &mut E, mut place: usize, out: &mut [u8]) -> usize
-    ensures bytes { λ _. ⌜ now (out .exit) ≡ squeeze-bytes rule (length (now (out .entry))) (at (meaning (now (engine .entry))) (place % rate)) ⌝ }
-    ensures state { λ r. ⌜ at (meaning (now (engine .exit))) (r % rate) ≡ squeeze-state rule (length (now (out .entry))) (at (meaning (now (engine .entry))) (place % rate)) ⌝ }
+    ensures { λ r. ⌜ Squeezes rule (at (meaning (now (engine .entry))) (place % rate)) (now (out .exit)) (at (meaning (now (engine .exit))) (r % rate)) ⌝ }
 {
     for b in out.iter_mut() {
         *b = byte_at(engine, place);

@@ -10,7 +10,6 @@ use Rattle.sponge.proofs.Advance.{advanced-read}
 use Rattle.digest.proofs.feeding.feed_item.Needs as need
 
 pub loop-i-again : need.loop-i-again
-unfolding absorb-piece
 loop-i-again g c =
     let e = g .E·Engine in
     let s = g .I·Item .bytes (c .args .item .now) in
@@ -25,7 +24,6 @@ loop-i-again g c =
     ∙ c .loop-i .inv
 
 pub returns : need.returns
-unfolding absorb-piece
 returns g c =
     let e = g .E·Engine in
     let s = g .I·Item .bytes (c .args .item .now) in

@@ -1,18 +1,16 @@
-use borrow.Author.Count.{below-more}
-use native.Mathlib.Omega.{arith}
-use mathlib.Core.Logic.{_≢_}
-use mathlib.Core.Path.{_∙_}
-use Prim.Native.Nat.{_<_}
-use lib.ListN.{length, length-set}
-use lib.Seq.{getD-set-same, getD-set-other}
+use mathlib.Core.Path.{ap, _∙_}
+use mathlib.Core.List.{List, _++_}
+use Prim.Native.Nat.{ℕ, _-_}
+use native.Mathlib.Nat.{sub-zero}
+use lib.ListN.{length, drop, replicate}
+use Rattle.std.proofs.shelf.Lists.{drop-replicate}
+use Rattle.digest.specs.Kinds.{longest}
 use Rattle.digest.proofs.note.with_zeros.Needs as need
 
-pub loop-i-again : need.loop-i-again
-loop-i-again c =
-    let long = c .loop-i .inv .0 in
-    (
-      length-set _ _ _ ∙ long,
-      below-more _ _
-      (λ k h. let ne : k ≢ c .loop-i .i = omega arith in rw getD-set-other (c .loop-i .inv .1 k h))
-      (let lt : c .loop-i .i < length (c .loop-i .all) = omega arith in rw getD-set-same)
-    )
+pub returns : need.returns
+returns c =
+    let text = c .args .text .now in
+    let n = length text in
+    ap (λ (s : List ℕ). s ++ drop (n - 0) (replicate longest 0)) (c .copy-from-slice .ensures .after)
+    ∙ ap (λ (k : ℕ). text ++ drop k (replicate longest 0)) (sub-zero n)
+    ∙ ap (λ (s : List ℕ). text ++ s) (drop-replicate n longest 0)

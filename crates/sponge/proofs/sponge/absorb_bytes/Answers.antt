@@ -5,11 +5,11 @@ use lib.ListN.{drop, getD}
 use Rattle.std.proofs.shelf.Lists.{at-drop-more, at-drop-all}
 use Rattle.sponge.specs.Blocks.{rate}
 use Rattle.sponge.specs.Steps.{State, at, absorb-byte, absorb-piece}
+use Rattle.sponge.proofs.Absorbing.{absorbs}
 use Rattle.sponge.proofs.Advance.{advanced-read}
 use Rattle.sponge.proofs.sponge.absorb_bytes.Needs as need
 
 pub loop-b-again : need.loop-b-again
-unfolding absorb-piece
 loop-b-again g c =
     let e = g .E·Engine in
     let i = c .loop-b .b-index in
@@ -22,8 +22,7 @@ loop-b-again g c =
     ∙ c .loop-b .inv
 
 pub returns : need.returns
-unfolding absorb-piece
 returns g c =
     let e = g .E·Engine in
     let here = at (e .meaning (c .loop-b .engine)) (c .loop-b .place % rate) in
-    sym (at-drop-all (absorb-piece (e .rule) here) (c .args .piece .now) (c .loop-b .b-index) (c .loop-b-test .left)) ∙ c .loop-b .inv
+    absorbs (e .rule) _ _ _ (sym (at-drop-all (absorb-piece (e .rule) here) (c .args .piece .now) (c .loop-b .b-index) (c .loop-b-test .left)) ∙ c .loop-b .inv)

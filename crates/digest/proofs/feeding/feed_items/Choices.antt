@@ -4,7 +4,7 @@ use lib.ListN.{drop}
 use Rattle.std.specs.Joined.{joined}
 use Rattle.sponge.specs.Blocks.{rate}
 use Rattle.sponge.specs.Steps.{at, absorb-piece}
-use Rattle.digest.proofs.feeding.Feeding.feed_list.Given as given
+use Rattle.digest.proofs.feeding.feed_items.Given as given
 
 -- what is left of the list leads to where the whole list leads
 abbrev pub Inv-loop-item : given.InvT-loop-item

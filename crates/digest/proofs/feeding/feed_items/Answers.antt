@@ -4,12 +4,11 @@ use Prim.Native.Nat.{ℕ, _+_, _%_}
 use lib.ListN.{drop}
 use Rattle.std.specs.Joined.{joined}
 use Rattle.std.proofs.shelf.Lists.{at-drop-more, at-drop-all}
-use Rattle.engine.specs.Strings.{zeros}
 use Rattle.sponge.specs.Blocks.{rate}
 use Rattle.sponge.specs.Steps.{State, at, absorb-piece}
 use Rattle.sponge.proofs.Absorbing.{absorbs, absorb-piece-append}
 use Rattle.digest.proofs.Apart.{lists-apart}
-use Rattle.digest.proofs.feeding.Feeding.feed_list.Needs as need
+use Rattle.digest.proofs.feeding.feed_items.Needs as need
 
 pub loop-item-again : need.loop-item-again
 loop-item-again g c =
@@ -27,15 +26,15 @@ loop-item-again g c =
     ∙ c .loop-item .inv
 
 pub returns : need.returns
-unfolding absorb-piece
 returns g c =
     let e = g .E·Engine in
     let bytes = g .I·Item .bytes in
     let items = c .args .items .now in
     let here = at (e .meaning (c .loop-item .engine)) (c .loop-item .place % rate) in
-    let all = sym (at-drop-all (λ (xs : List (g .I .Denot)). absorb-piece (e .rule) here (joined bytes xs)) items (c .loop-item .item-index) (c .loop-item-test .left)) ∙ c .loop-item .inv in
     record {
-      state = all;
-      fed = λ m h. absorbs (e .rule) _ _ _ all .piecewise (at zeros 0) m h;
+      absorbs = absorbs (e .rule) _ _ _ (
+          sym (at-drop-all (λ (xs : List (g .I .Denot)). absorb-piece (e .rule) here (joined bytes xs)) items (c .loop-item .item-index) (c .loop-item-test .left))
+          ∙ c .loop-item .inv
+          );
       apart = lists-apart bytes (g .I·Item·met .nonempty) (g .I·Item·met .«prefix_free») items;
     }
