@@ -13,7 +13,7 @@ use Rattle.digest.specs.declared.note.Note.{Note}
 
 -- a force word: its four bytes, lowest first
 abbrev pub force-bytes : ForceWord → List ℕ
-force-bytes w = map (λ i. w .value / 2 ^ (8 * i) % 256) (counting 0 4)
+force-bytes w = map (λ i. w .word / 2 ^ (8 * i) % 256) (counting 0 4)
 
 -- how many bytes a text may have
 abbrev pub longest : ℕ
@@ -23,9 +23,13 @@ longest = 28
 abbrev pub text-len : Note → ℕ
 text-len n = min (n .len) longest
 
+-- the text of a note
+unfoldable pub text-bytes : Note → List ℕ
+text-bytes n = map (λ i. getD (n .text) i 0 % 256) (counting 0 (text-len n))
+
 -- a note: its text's length, then its text
-unfoldable pub note-bytes : Note → List ℕ
-note-bytes n = text-len n ∷ map (λ i. getD (n .text) i 0 % 256) (counting 0 (text-len n))
+abbrev pub note-bytes : Note → List ℕ
+note-bytes n = text-len n ∷ text-bytes n
 
 -- the note of a text: behind the text stand zeros
 abbrev pub noted : List ℕ → Note

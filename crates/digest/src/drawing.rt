@@ -19,6 +19,7 @@ impl<E: Engine> Drawing<E> {
     pub fn draw(self, out: &mut [u8]) -> Drawing<E>
         ensures bytes { λ _. ⌜ now (out .exit) ≡ squeeze-bytes rule (length (now (out .exit))) (standing meaning (self .sponge)) ⌝ }
         ensures state { λ r. ⌜ standing meaning (r .sponge) ≡ squeeze-state rule (length (now (out .exit))) (standing meaning (self .sponge)) ⌝ }
+        ensures first { λ _. ⌜ ((m : List ℕ) → Drawn meaning rule self m 0 → now (out .exit) ≡ output rule m (length (now (out .exit)))) ⌝ }
         ensures next { λ _. ⌜ ((m : List ℕ) (n : ℕ) → Drawn meaning rule self m n → output rule m (n + length (now (out .exit))) ≡ output rule m n ++ now (out .exit)) ⌝ }
         ensures drawn { λ r. ⌜ ((m : List ℕ) (n : ℕ) → Drawn meaning rule self m n → Drawn meaning rule r m (n + length (now (out .exit)))) ⌝ }
     {

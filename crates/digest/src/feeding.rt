@@ -79,8 +79,8 @@ fn feed_items<E: Engine, I: Item>(engine: &mut E, mut place: usize, items: &[I])
     ensures absorbs { λ r. ⌜ Absorbs rule (at (meaning (now (engine .entry))) (place % rate)) (joined bytes (now (items .entry))) (at (meaning (now (engine .exit))) (r % rate)) ⌝ }
     ensures apart { λ _. ⌜ ((others : List I) → joined bytes (now (items .entry)) ≡ joined bytes others → map bytes (now (items .entry)) ≡ map bytes others) ⌝ }
 {
-    for item in items {
-        place = feed_item(engine, place, item);
+    for i in 0..items.len() {
+        place = feed_item(engine, place, &items[i]);
     }
     place
 }

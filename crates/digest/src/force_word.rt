@@ -3,22 +3,25 @@ ghost use mathlib.Core.Path.{_≡_};
 ghost use Rattle.digest.specs.Kinds.{force-bytes};
 use crate::item::Item;
 
+// The number of bytes in a word.
+const SIZE: usize = 4;
+
 #[derive(Clone, Copy)]
 pub struct ForceWord {
-    value: u32,
+    word: u32,
 }
 
 impl ForceWord {
-    pub fn new(value: u32) -> ForceWord
-        ensures { λ r. ⌜ r .value ≡ value ⌝ }
+    pub fn new(number: u32) -> ForceWord
+        ensures { λ r. ⌜ r .word ≡ number ⌝ }
     {
-        ForceWord { value }
+        ForceWord { word: number }
     }
 
-    pub fn value(self) -> u32
-        ensures { λ r. ⌜ r ≡ self .value ⌝ }
+    pub fn number(&self) -> u32
+        ensures { λ r. ⌜ r ≡ now (self .entry) .word ⌝ }
     {
-        self.value
+        self.word
     }
 }
 
@@ -26,12 +29,12 @@ pub impl Item for ForceWord as ForceWordItem {
     ghost bytes = { force-bytes };
 
     fn len(&self) -> usize {
-        4
+        SIZE
     }
 
     fn byte(&self, place: usize) -> Option<u8> {
-        if place < 4 {
-            Some(((self.value >> (8 * place)) % 256) as u8)
+        if place < SIZE {
+            Some(((self.number() >> (8 * place)) % 256) as u8)
         } else {
             None
         }

@@ -3,7 +3,7 @@ ghost use mathlib.Core.Path.{_≡_};
 ghost use mathlib.Core.List.{_++_};
 ghost use Prim.Native.Nat.{_-_, _≤_};
 ghost use lib.ListN.{length, replicate};
-ghost use Rattle.digest.specs.Kinds.{longest, text-len, note-bytes, Noted};
+ghost use Rattle.digest.specs.Kinds.{longest, text-len, text-bytes, note-bytes, Noted};
 use crate::item::Item;
 use engine::refusal::Refusal;
 
@@ -33,7 +33,8 @@ impl Note {
 
     // The number of bytes in the text.
     fn text_len(&self) -> usize
-        ensures { λ r. ⌜ r ≡ text-len (now (self .entry)) ⌝ }
+        ensures number { λ r. ⌜ r ≡ text-len (now (self .entry)) ⌝ }
+        ensures long { λ r. ⌜ r ≡ length (text-bytes (now (self .entry))) ⌝ }
     {
         LONGEST.min(self.len as usize)
     }

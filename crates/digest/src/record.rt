@@ -2,9 +2,12 @@
 ghost use mathlib.Core.Path.{_≡_};
 ghost use lib.ListN.{length};
 ghost use Rattle.engine.specs.Strings.{zeros};
-ghost use Rattle.sponge.specs.Blocks.{output};
+ghost use Rattle.sponge.specs.Blocks.{output, hash};
 use crate::feeding::Feeding;
 use engine::engine::Engine;
+
+// The number of bytes in a hash.
+pub const HASH: usize = 32;
 
 // Fills a buffer with the long output of a string. The engine comes back cleared.
 pub fn digest_string<E: Engine>(engine: E, string: &[u8], out: &mut [u8]) -> E
@@ -13,6 +16,16 @@ pub fn digest_string<E: Engine>(engine: E, string: &[u8], out: &mut [u8]) -> E
 {
     let drawing = Feeding::begin(engine).feed(string).end_feeding();
     drawing.draw(out).release()
+}
+
+// The hash of a string. The engine comes back cleared.
+pub fn hash_string<E: Engine>(engine: E, string: &[u8]) -> (E, [u8; HASH])
+    ensures hash { λ r. ⌜ r .1 ≡ hash rule (now (string .entry)) ⌝ }
+    ensures cleared { λ r. ⌜ meaning (r .0) ≡ zeros ⌝ }
+{
+    let mut out = [0; HASH];
+    let engine = digest_string(engine, string, &mut out);
+    (engine, out)
 }
 
 // The long outputs of two records, on one engine. What is to be fed after the end of the first begins the second.

@@ -1,13 +1,13 @@
 -- A string taken in byte by byte, in any pieces, is the string taken in by blocks.
 use mathlib.Core.Path.{_≡_, refl, sym, ap, _∙_}
 use mathlib.Core.List.{List, [], _∷_, _++_}
-use mathlib.Core.Logic.{_⊎_, inl, inr, _≢_}
-use Prim.Native.Nat.{ℕ, zero, suc, _+_, _-_, _*_, _/_, _%_, _≤_, _<_}
+use mathlib.Core.Logic.{inl, inr}
+use Prim.Native.Nat.{ℕ, zero, suc, _+_, _*_, _/_, _%_, _≤_}
 use native.Mathlib.Omega.{arith}
 use lib.Bits.{bitXor}
-use lib.ListN.{length, getD, set, take, drop}
+use lib.ListN.{length, take, drop}
 use Rattle.engine.specs.Strings.{xored}
-use Rattle.std.proofs.shelf.Lists.{append-nil, append-assoc, length-append, length-drop, length-push, take-all, drop-all, drop-drop, take-append-le, drop-append-le}
+use Rattle.std.proofs.shelf.Lists.{append-nil, append-assoc, length-drop, length-push, take-all, drop-all, drop-drop, take-append-le, drop-append-le}
 use Rattle.std.proofs.shelf.Tests.{cases-eq}
 use Rattle.sponge.specs.Blocks.{rate, last-place, mixed, after-full, absorbed}
 use Rattle.sponge.specs.Steps.{State, at, advanced, absorb-byte, absorb-piece, padded, absorbing}

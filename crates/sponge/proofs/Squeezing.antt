@@ -1,11 +1,11 @@
 -- Bytes given out one by one, in any pieces, are the bytes given out by blocks.
 use mathlib.Core.Path.{_≡_, refl, sym, ap, _∙_}
 use mathlib.Core.List.{List, [], _∷_, _++_}
-use mathlib.Core.Logic.{_⊎_, inl, inr}
-use Prim.Native.Nat.{ℕ, zero, suc, _+_, _-_, _*_, _/_, _%_, _≤_, _<_}
+use mathlib.Core.Logic.{inl, inr}
+use Prim.Native.Nat.{ℕ, zero, suc, _+_, _-_, _*_, _/_, _%_, _<_}
 use native.Mathlib.Nat.{zero-add}
 use native.Mathlib.Omega.{arith}
-use lib.ListN.{length, getD, take, drop}
+use lib.ListN.{length, getD, take}
 use Rattle.engine.specs.Strings.{Whole}
 use Rattle.std.proofs.shelf.Lists.{append-nil, append-assoc, length-append, length-take-le, take-append-le, take-more, getD-take, getD-append-right}
 use Rattle.std.proofs.shelf.Tests.{cases-eq}
@@ -55,18 +55,13 @@ module _ (rule : List ℕ → List ℕ) where
         | inr e ↦ now ∙ advanced-within rule _ r e ∙ sym (by-blocks-at s (n + 1) q (r + 1) (omega arith) (omega arith))
       ]
 
-  -- n bytes more given out, in one piece
+  -- a piece more given out
   by-blocks-append : (s : List ℕ) (n k : ℕ) → squeeze-state rule k (by-blocks s n) ≡ by-blocks s (n + k)
   by-blocks-append s n zero = ap (by-blocks s) (omega arith)
   by-blocks-append s n (suc k) =
       ap (squeeze-state rule k) (by-blocks-push s n) ∙ by-blocks-append s (n + 1) k ∙ ap (by-blocks s) (omega arith)
 
   module _ (keeps : (s : List ℕ) → Whole s → Whole (rule s)) where
-    turned-whole : (n : ℕ) (s : List ℕ) → Whole s → Whole (turned n s)
-    unfolding turned
-    turned-whole zero s w = w
-    turned-whole (suc n) s w = turned-whole n (rule s) (keeps s w)
-
     block-long : (s : List ℕ) → Whole s → length (take rate s) ≡ rate
     block-long s w = let long = w .long in length-take-le rate s (omega arith)
 
@@ -80,7 +75,7 @@ module _ (rule : List ℕ → List ℕ) where
 
     -- one byte more of the stream
     stream-push : (s : List ℕ) (n : ℕ) → Whole s → stream rule s (n + 1) ≡ stream rule s n ++ getD (by-blocks s n .string) (by-blocks s n .place) 0 ∷ []
-    unfolding stream by-blocks
+    unfolding by-blocks
     stream-push s n w =
         let q = n / rate in
         let r = n % rate in
@@ -142,10 +137,13 @@ module _ (rule : List ℕ → List ℕ) where
   pub squeezes : ((s : List ℕ) → Whole s → Whole (rule s)) → (p : State) (out : List ℕ) (q : State) → out ≡ squeeze-bytes rule (length out) p → q ≡ squeeze-state rule (length out) p → Squeezes rule p out q
   squeezes keeps p out q e f =
       let k = length out in
+      let next : (s : List ℕ) (n : ℕ) → Whole s → p ≡ squeezing rule s n → stream rule s (n + k) ≡ stream rule s n ++ out =
+      λ s n w h. stream-append keeps s n k w ∙ ap (λ (x : List ℕ). stream rule s n ++ x) (sym (e ∙ ap (squeeze-bytes rule k) (h ∙ squeezing-by-blocks s n))) in
       record {
         bytewise = e;
         state = f;
         piecewise = λ o n h. squeeze-bytes-add n k o ∙ ap (λ (x : List ℕ). squeeze-bytes rule n o ++ x) (sym (e ∙ ap (squeeze-bytes rule k) h));
         piecewise-state = λ o n h. f ∙ ap (squeeze-state rule k) h ∙ sym (squeeze-state-add n k o);
-        whole = λ s n w h. stream-append keeps s n k w ∙ ap (λ (x : List ℕ). stream rule s n ++ x) (sym (e ∙ ap (squeeze-bytes rule k) (h ∙ squeezing-by-blocks s n)));
+        first = λ s w h. sym (next s 0 w h) ∙ ap (stream rule s) (zero-add k);
+        next = next;
       }

@@ -13,7 +13,7 @@ rate = 16
 abbrev pub last-place : ℕ
 last-place = width - 1
 
--- how many blocks a string is cut into: full ones, and one last block of fewer than 16 bytes
+-- how many blocks a string is cut into: its full ones, and one last block, which is shorter
 abbrev pub blocks : List ℕ → ℕ
 blocks m = length m / rate + 1
 
@@ -61,7 +61,7 @@ module _ (rule : List ℕ → List ℕ) where
   squeezed (suc n) s = take rate s ++ squeezed n (rule s)
 
   -- the first n bytes that a state gives
-  unfoldable pub stream : List ℕ → ℕ → List ℕ
+  abbrev pub stream : List ℕ → ℕ → List ℕ
   stream s n = take n (squeezed (n / rate + 1) s)
 
   -- the first n bytes of the long output of a string

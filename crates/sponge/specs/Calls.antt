@@ -29,5 +29,7 @@ pub record Squeezes (rule : List ℕ → List ℕ) (p : State) (out : List ℕ) 
   -- bytes out in any pieces are those out in one piece
   pub piecewise : (o : State) (n : ℕ) → p ≡ squeeze-state rule n o → squeeze-bytes rule (n + length out) o ≡ squeeze-bytes rule n o ++ out
   pub piecewise-state : (o : State) (n : ℕ) → p ≡ squeeze-state rule n o → q ≡ squeeze-state rule (n + length out) o
-  -- they go on in what the state gives, as its blocks have it
-  pub whole : (s : List ℕ) (n : ℕ) → Whole s → p ≡ squeezing rule s n → stream rule s (n + length out) ≡ stream rule s n ++ out
+  -- the first bytes of a state are the front of what it gives, as its blocks have it
+  pub first : (s : List ℕ) → Whole s → p ≡ at s 0 → out ≡ stream rule s (length out)
+  -- later ones go on from there
+  pub next : (s : List ℕ) (n : ℕ) → Whole s → p ≡ squeezing rule s n → stream rule s (n + length out) ≡ stream rule s n ++ out

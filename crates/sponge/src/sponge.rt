@@ -1,7 +1,6 @@
 // A sponge moves from call to call, and holds its engine by value.
 ghost use mathlib.Core.Path.{_≡_};
 ghost use Prim.Native.Nat.{_%_};
-ghost use lib.ListN.{length};
 ghost use Rattle.engine.specs.Strings.{zeros};
 ghost use Rattle.sponge.specs.Blocks.{rate};
 ghost use Rattle.sponge.specs.Calls.{Absorbs, Pads, Squeezes};
@@ -21,11 +20,13 @@ pub struct Sponge<E> {
 
 impl<E: Engine> Sponge<E> {
     // A sponge of zeros, whatever the engine meant.
-    pub fn new(mut engine: E) -> Sponge<E>
+    pub fn new(engine: E) -> Sponge<E>
         ensures { λ r. ⌜ standing meaning r ≡ at zeros 0 ⌝ }
     {
-        engine.clear();
-        Sponge { engine, place: 0 }
+        Sponge {
+            engine: cleared(engine),
+            place: 0,
+        }
     }
 
     // Takes in the next piece of a string.
@@ -42,8 +43,8 @@ impl<E: Engine> Sponge<E> {
         ensures { λ r. ⌜ Pads rule (standing meaning self) (standing meaning r) ⌝ }
     {
         let Sponge { mut engine, place } = self;
-        end_block(&mut engine, place);
-        Sponge { engine, place: 0 }
+        let place = end_block(&mut engine, place);
+        Sponge { engine, place }
     }
 
     // Fills a buffer with the next bytes that the state gives.
@@ -59,16 +60,20 @@ impl<E: Engine> Sponge<E> {
     pub fn into_engine(self) -> E
         ensures { λ r. ⌜ meaning r ≡ zeros ⌝ }
     {
-        let Sponge {
-            mut engine,
-            place: _,
-        } = self;
-        engine.clear();
-        engine
+        let Sponge { engine, place: _ } = self;
+        cleared(engine)
     }
 }
 
-// The engine is lent in these: a sponge that moves at each byte would be copied at each byte.
+fn cleared<E: Engine>(mut engine: E) -> E
+    ensures { λ r. ⌜ meaning r ≡ zeros ⌝ }
+{
+    engine.clear();
+    engine
+}
+
+// Below the engine is lent, since a sponge that moves at each byte would be copied at each byte.
+// Each takes the place in the block, and answers the next one.
 
 fn absorb_bytes<E: Engine>(engine: &mut E, mut place: usize, piece: &[u8]) -> usize
     ensures { λ r. ⌜ Absorbs rule (at (meaning (now (engine .entry))) (place % rate)) (now (piece .entry)) (at (meaning (now (engine .exit))) (r % rate)) ⌝ }
@@ -79,12 +84,13 @@ fn absorb_bytes<E: Engine>(engine: &mut E, mut place: usize, piece: &[u8]) -> us
     place
 }
 
-fn end_block<E: Engine>(engine: &mut E, place: usize)
-    ensures { λ _. ⌜ at (meaning (now (engine .exit))) 0 ≡ padded rule (at (meaning (now (engine .entry))) (place % rate)) ⌝ }
+fn end_block<E: Engine>(engine: &mut E, place: usize) -> usize
+    ensures { λ r. ⌜ at (meaning (now (engine .exit))) (r % rate) ≡ padded rule (at (meaning (now (engine .entry))) (place % rate)) ⌝ }
 {
     xor_in(engine, place, 1);
     let _ = engine.xor_byte(WIDTH - 1, 1);
     engine.permute();
+    0
 }
 
 fn squeeze_bytes<E: Engine>(engine: &mut E, mut place: usize, out: &mut [u8]) -> usize

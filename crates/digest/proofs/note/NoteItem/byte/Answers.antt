@@ -4,14 +4,8 @@ use native.Mathlib.Omega.{arith}
 use borrow.Author.Needs.{needs}
 use lib.ListN.{length, getD}
 use Rattle.digest.specs.Kinds.{text-len, note-bytes}
-use Rattle.digest.proofs.Notes.{length-note, getD-note, getD-note-first}
+use Rattle.digest.proofs.Notes.{length-note, getD-note}
 use Rattle.digest.proofs.note.NoteItem.byte.Needs as need
-
-pub returns-then-place-eq0 : need.returns-then-place-eq0
-returns-then-place-eq0 c =
-    let n = c .args .self .now in
-    let long = length-note n in
-    (omega arith, c .text-len-len .ensures ∙ getD-note-first n ∙ ap (λ (i : ℕ). getD (note-bytes n) i 0) (sym (c .if-place-eq0 .taken)))
 
 pub returns-then-place-len : need.returns-then-place-len
 returns-then-place-len c =
