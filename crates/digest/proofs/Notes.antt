@@ -9,9 +9,9 @@ use Rattle.std.specs.Iters.{counting}
 use Rattle.std.proofs.shelf.Counted.{length-map-counting, getD-map-counting, fill-by-all}
 use Rattle.std.proofs.shelf.Lists.{getD-append-left, getD-past}
 use Rattle.std.proofs.shelf.Tests.{cases-lt}
-use Rattle.digest.specs.Kinds.{longest, text-len, text-bytes, note-bytes, noted}
+use Rattle.digest.specs.Notes.{longest, text-len, text-bytes, note-bytes, noted}
 use Rattle.digest.specs.declared.note.Note.{Note}
-use Rattle.digest.proofs.Apart.{whole-front}
+use Rattle.digest.proofs.Told.{whole-front}
 
 -- the byte of the text at a place
 abbrev letter : Note → ℕ → ℕ

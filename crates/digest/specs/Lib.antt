@@ -1,3 +1,4 @@
 pub mod Digests
+pub mod ForceWords
 pub mod Items
-pub mod Kinds
+pub mod Notes

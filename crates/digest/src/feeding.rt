@@ -1,6 +1,6 @@
 // The first part of a digest: a string is fed, in pieces and in lists of items.
 ghost use mathlib.Core.Path.{_≡_};
-ghost use mathlib.Core.List.{List, [], _++_, map};
+ghost use mathlib.Core.List.{List, [], _++_};
 ghost use Prim.Native.Nat.{ℕ, _%_};
 ghost use Rattle.std.specs.Joined.{joined};
 ghost use Rattle.engine.specs.Strings.{zeros};
@@ -8,6 +8,7 @@ ghost use Rattle.sponge.specs.Blocks.{rate};
 ghost use Rattle.sponge.specs.Calls.{Absorbs};
 ghost use Rattle.sponge.specs.Steps.{at, standing, absorb-piece, padded};
 ghost use Rattle.digest.specs.Digests.{Fed, Drawn};
+ghost use Rattle.digest.specs.Items.{Told};
 use crate::drawing::Drawing;
 use crate::item::Item;
 use engine::engine::Engine;
@@ -43,7 +44,7 @@ impl<E: Engine> Feeding<E> {
     pub fn feed_list<I: Item>(self, items: &[I]) -> Feeding<E>
         ensures state { λ r. ⌜ standing meaning (r .sponge) ≡ absorb-piece rule (standing meaning (self .sponge)) (joined bytes (now (items .entry))) ⌝ }
         ensures fed { λ r. ⌜ ((m : List ℕ) → Fed meaning rule self m → Fed meaning rule r (m ++ joined bytes (now (items .entry)))) ⌝ }
-        ensures apart { λ _. ⌜ ((others : List I) → joined bytes (now (items .entry)) ≡ joined bytes others → map bytes (now (items .entry)) ≡ map bytes others) ⌝ }
+        ensures told { λ _. ⌜ Told bytes (now (items .entry)) ⌝ }
     {
         let Feeding { sponge } = self;
         let Sponge { mut engine, place } = sponge;
@@ -73,11 +74,11 @@ impl<E: Engine> Feeding<E> {
     }
 }
 
-// The strings of a list, and of one item, taken in at a place of the block; the answer is the next place.
+// Below the engine is lent, and not moved at each byte. Each takes the place in the block, and answers the next one.
 
 fn feed_items<E: Engine, I: Item>(engine: &mut E, mut place: usize, items: &[I]) -> usize
     ensures absorbs { λ r. ⌜ Absorbs rule (at (meaning (now (engine .entry))) (place % rate)) (joined bytes (now (items .entry))) (at (meaning (now (engine .exit))) (r % rate)) ⌝ }
-    ensures apart { λ _. ⌜ ((others : List I) → joined bytes (now (items .entry)) ≡ joined bytes others → map bytes (now (items .entry)) ≡ map bytes others) ⌝ }
+    ensures told { λ _. ⌜ Told bytes (now (items .entry)) ⌝ }
 {
     for i in 0..items.len() {
         place = feed_item(engine, place, &items[i]);

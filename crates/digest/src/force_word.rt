@@ -1,6 +1,6 @@
 // A force word: a 32-bit number, written as four bytes.
 ghost use mathlib.Core.Path.{_≡_};
-ghost use Rattle.digest.specs.Kinds.{force-bytes};
+ghost use Rattle.digest.specs.ForceWords.{force-bytes};
 use crate::item::Item;
 
 // The number of bytes in a word.

@@ -3,7 +3,7 @@ ghost use mathlib.Core.Path.{_≡_};
 ghost use mathlib.Core.List.{_++_};
 ghost use Prim.Native.Nat.{_-_, _≤_};
 ghost use lib.ListN.{length, replicate};
-ghost use Rattle.digest.specs.Kinds.{longest, text-len, text-bytes, note-bytes, Noted};
+ghost use Rattle.digest.specs.Notes.{longest, text-len, text-bytes, note-bytes, Noted};
 use crate::item::Item;
 use engine::refusal::Refusal;
 

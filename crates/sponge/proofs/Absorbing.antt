@@ -2,17 +2,17 @@
 use mathlib.Core.Path.{_≡_, refl, sym, ap, _∙_}
 use mathlib.Core.List.{List, [], _∷_, _++_}
 use mathlib.Core.Logic.{inl, inr}
-use Prim.Native.Nat.{ℕ, zero, suc, _+_, _*_, _/_, _%_, _≤_}
+use Prim.Native.Nat.{ℕ, zero, suc, _+_, _*_, _/_, _%_, _≤_, _<_}
 use native.Mathlib.Omega.{arith}
 use lib.Bits.{bitXor}
-use lib.ListN.{length, take, drop}
+use lib.ListN.{length, getD, take, drop}
 use Rattle.engine.specs.Strings.{xored}
-use Rattle.std.proofs.shelf.Lists.{append-nil, append-assoc, length-drop, length-push, take-all, drop-all, drop-drop, take-append-le, drop-append-le}
+use Rattle.std.proofs.shelf.Lists.{append-nil, append-assoc, length-drop, length-push, take-all, drop-all, drop-drop, take-append-le, drop-append-le, at-drop-more, at-drop-all}
 use Rattle.std.proofs.shelf.Tests.{cases-eq}
 use Rattle.sponge.specs.Blocks.{rate, last-place, mixed, after-full, absorbed}
 use Rattle.sponge.specs.Steps.{State, at, advanced, absorb-byte, absorb-piece, padded, absorbing}
 use Rattle.sponge.specs.Calls.{Absorbs, Pads}
-use Rattle.sponge.proofs.Advance.{advanced-end, advanced-within}
+use Rattle.sponge.proofs.Advance.{advanced-end, advanced-within, advanced-read}
 
 mixed-none : (s : List ℕ) → mixed s [] ≡ s
 unfolding mixed
@@ -114,6 +114,19 @@ module _ (rule : List ℕ → List ℕ) where
   pub absorb-piece-append : (p : State) (a b : List ℕ) → absorb-piece rule p (a ++ b) ≡ absorb-piece rule (absorb-piece rule p a) b
   absorb-piece-append p [] b = refl
   absorb-piece-append p (x ∷ a) b = absorb-piece-append (absorb-byte rule p x) a b
+
+  -- a loop over the bytes of a string: one byte more taken in by a call, at a place read modulo the rate
+  pub next-byte : (string : List ℕ) (i b : ℕ) (s t : List ℕ) (place r : ℕ) → i < length string → b ≡ getD string i 0 → at t r ≡ absorb-byte rule (at s (place % rate)) b → absorb-piece rule (at t (r % rate)) (drop (i + 1) string) ≡ absorb-piece rule (at s (place % rate)) (drop i string)
+  next-byte string i b s t place r within read taken =
+      let here = at s (place % rate) in
+      let rest = drop (i + 1) string in
+      ap (λ (p : State). absorb-piece rule p rest) (advanced-read rule t (xored s (place % rate) b) place r taken)
+      ∙ ap (λ (c : ℕ). absorb-piece rule here (c ∷ rest)) read
+      ∙ sym (at-drop-more (absorb-piece rule here) string i 0 within)
+
+  -- past its last byte
+  pub no-byte : (string : List ℕ) (i : ℕ) (p : State) → length string ≤ i → p ≡ absorb-piece rule p (drop i string)
+  no-byte string i p past = sym (at-drop-all (absorb-piece rule p) string i past)
 
   pub absorbs : (p : State) (piece : List ℕ) (q : State) → q ≡ absorb-piece rule p piece → Absorbs rule p piece q
   absorbs p piece q e = record {

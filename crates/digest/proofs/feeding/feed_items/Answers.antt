@@ -8,7 +8,7 @@ use Rattle.std.proofs.shelf.Lists.{at-drop-more, at-drop-all}
 use Rattle.sponge.specs.Blocks.{rate}
 use Rattle.sponge.specs.Steps.{State, at, absorb-piece}
 use Rattle.sponge.proofs.Absorbing.{absorbs, absorb-piece-append}
-use Rattle.digest.proofs.Apart.{lists-apart}
+use Rattle.digest.proofs.Told.{told}
 use Rattle.digest.proofs.feeding.feed_items.Needs as need
 
 -- one item more taken in, whichever way it was read
@@ -36,5 +36,5 @@ returns g c =
           sym (at-drop-all (λ (xs : List (g .I .Denot)). absorb-piece (e .rule) here (joined bytes xs)) items (c .loop-i .i) (c .loop-i-test .left))
           ∙ c .loop-i .inv
           );
-      apart = lists-apart bytes (g .I·Item·met .nonempty) (g .I·Item·met .«prefix_free») items;
+      told = told bytes (g .I·Item·met .nonempty) (g .I·Item·met .«prefix_free») items;
     }

@@ -4,7 +4,7 @@ use Prim.Native.Nat.{ℕ, _-_}
 use native.Mathlib.Nat.{sub-zero}
 use lib.ListN.{length, drop, replicate}
 use Rattle.std.proofs.shelf.Lists.{drop-replicate}
-use Rattle.digest.specs.Kinds.{longest}
+use Rattle.digest.specs.Notes.{longest}
 use Rattle.digest.proofs.note.with_zeros.Needs as need
 
 pub returns : need.returns

@@ -3,7 +3,7 @@ use mathlib.Core.List.{List}
 use Prim.Native.Nat.{ℕ}
 use native.Mathlib.Omega.{arith}
 use lib.ListN.{length}
-use Rattle.digest.specs.Kinds.{note-bytes, noted}
+use Rattle.digest.specs.Notes.{note-bytes, noted}
 use Rattle.digest.specs.declared.note.Note.{Note}
 use Rattle.digest.proofs.Notes.{note-bytes-noted}
 use Rattle.digest.proofs.note.Note.new.Needs as need

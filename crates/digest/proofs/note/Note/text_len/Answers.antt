@@ -1,6 +1,6 @@
 use mathlib.Core.Path.{_≡_, sym, _∙_}
 use native.Mathlib.Omega.{arith}
-use Rattle.digest.specs.Kinds.{text-len}
+use Rattle.digest.specs.Notes.{text-len}
 use Rattle.digest.proofs.Notes.{length-text}
 use Rattle.digest.proofs.note.Note.text_len.Needs as need
 

@@ -3,7 +3,7 @@ use Prim.Native.Nat.{ℕ, _+_, _-_, _%_, _<_}
 use native.Mathlib.Omega.{arith}
 use borrow.Author.Needs.{needs}
 use lib.ListN.{length, getD}
-use Rattle.digest.specs.Kinds.{text-len, note-bytes}
+use Rattle.digest.specs.Notes.{text-len, note-bytes}
 use Rattle.digest.proofs.Notes.{length-note, getD-note}
 use Rattle.digest.proofs.note.NoteItem.byte.Needs as need
 

@@ -1,25 +1,20 @@
--- The strings of force words and notes.
+-- The string of a note, and what makes one.
 use mathlib.Core.Path.{_≡_}
 use mathlib.Core.List.{List, map, _∷_, _++_}
-use Prim.Native.Nat.{ℕ, _-_, _*_, _/_, _%_, _^_, _≤_, _<_, min}
+use Prim.Native.Nat.{ℕ, _-_, _%_, _≤_, _<_, min}
 use lib.ListN.{length, getD, replicate}
 use Rattle.std.specs.Iters.{counting}
 use Rattle.std.specs.declared.result.Result.{Result}
 use Rattle.std.specs.declared.result.Result.the-variants.{Ok, Err}
 use Rattle.engine.specs.Refusals.{number}
 use Rattle.engine.specs.declared.refusal.Refusal.{Refusal}
-use Rattle.digest.specs.declared.force_word.ForceWord.{ForceWord}
 use Rattle.digest.specs.declared.note.Note.{Note}
-
--- a force word: its four bytes, lowest first
-abbrev pub force-bytes : ForceWord → List ℕ
-force-bytes w = map (λ i. w .word / 2 ^ (8 * i) % 256) (counting 0 4)
 
 -- how many bytes a text may have
 abbrev pub longest : ℕ
 longest = 28
 
--- how many bytes the text of a note has
+-- how many bytes the text of a note has: its length is read as at most 28
 abbrev pub text-len : Note → ℕ
 text-len n = min (n .len) longest
 
@@ -27,7 +22,7 @@ text-len n = min (n .len) longest
 unfoldable pub text-bytes : Note → List ℕ
 text-bytes n = map (λ i. getD (n .text) i 0 % 256) (counting 0 (text-len n))
 
--- a note: its text's length, then its text
+-- the string of a note: its text's length, then its text
 abbrev pub note-bytes : Note → List ℕ
 note-bytes n = text-len n ∷ text-bytes n
 

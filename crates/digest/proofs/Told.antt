@@ -6,6 +6,7 @@ use Prim.Native.Nat.{ℕ, _+_, _≤_, _<_}
 use native.Mathlib.Omega.{arith}
 use lib.ListN.{length, take, drop}
 use Rattle.std.specs.Joined.{joined}
+use Rattle.digest.specs.Items.{Told}
 use Rattle.std.proofs.shelf.Lists.{append-cancel-left, append-nil, length-append, nil-from-length, take-append-drop, take-append-le, take-at}
 use Rattle.std.proofs.shelf.Tests.{cases-lt}
 
@@ -30,12 +31,15 @@ module _ {I : Type 0} (bytes : I → List ℕ) (nonempty : (a : I) → 0 < lengt
         | inr h ↦ sym (prefix-free b a _ (front-begins (bytes b) (bytes a) t s (sym e) h))
       ]
 
-  pub lists-apart : (xs ys : List I) → joined bytes xs ≡ joined bytes ys → map bytes xs ≡ map bytes ys
-  lists-apart [] [] e = refl
-  lists-apart [] (y ∷ ys) e = absurd (omega (arith, nonempty y, ap length e ∙ length-append (bytes y) (joined bytes ys)))
-  lists-apart (x ∷ xs) [] e = absurd (omega (arith, nonempty x, sym (length-append (bytes x) (joined bytes xs)) ∙ ap length e))
-  lists-apart (x ∷ xs) (y ∷ ys) e =
+  same-strings : (xs ys : List I) → joined bytes xs ≡ joined bytes ys → map bytes xs ≡ map bytes ys
+  same-strings [] [] e = refl
+  same-strings [] (y ∷ ys) e = absurd (omega (arith, nonempty y, ap length e ∙ length-append (bytes y) (joined bytes ys)))
+  same-strings (x ∷ xs) [] e = absurd (omega (arith, nonempty x, sym (length-append (bytes x) (joined bytes xs)) ∙ ap length e))
+  same-strings (x ∷ xs) (y ∷ ys) e =
       let first : bytes x ≡ bytes y = first-same x y (joined bytes xs) (joined bytes ys) e in
       let rest : joined bytes xs ≡ joined bytes ys =
       append-cancel-left (bytes y) _ _ (ap (λ (s : List ℕ). s ++ joined bytes xs) (sym first) ∙ e) in
-      ap (λ (s : List ℕ). s ∷ map bytes xs) first ∙ ap (λ (r : List (List ℕ)). bytes y ∷ r) (lists-apart xs ys rest)
+      ap (λ (s : List ℕ). s ∷ map bytes xs) first ∙ ap (λ (r : List (List ℕ)). bytes y ∷ r) (same-strings xs ys rest)
+
+  pub told : (items : List I) → Told bytes items
+  told items others e = same-strings items others e
