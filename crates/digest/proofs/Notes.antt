@@ -1,7 +1,7 @@
 -- The string of a note, by its places.
 use mathlib.Core.Path.{_≡_, refl, sym, ap, _∙_}
-use mathlib.Core.List.{List, [], _∷_, _++_, map}
-use mathlib.Core.Logic.{_⊎_, inl, inr}
+use mathlib.Core.List.{List, _∷_, _++_, map}
+use mathlib.Core.Logic.{inl, inr}
 use Prim.Native.Nat.{ℕ, zero, suc, _+_, _-_, _%_, _≤_, _<_}
 use native.Mathlib.Omega.{arith}
 use lib.ListN.{length, getD, replicate}
@@ -40,7 +40,6 @@ note-each-byte n (suc i) =
     ]
 
 pub note-prefix-free : (a b : Note) (t : List ℕ) → note-bytes a ++ t ≡ note-bytes b → note-bytes a ≡ note-bytes b
-unfolding text-bytes
 note-prefix-free a b t e =
     let same : text-len a ≡ text-len b = ap (λ (s : List ℕ). getD s 0 0) e in
     whole-front (note-bytes a) (note-bytes b) t (length-note a ∙ ap (λ (k : ℕ). k + 1) same ∙ sym (length-note b)) e

@@ -12,12 +12,14 @@ pub struct ForceWord {
 }
 
 impl ForceWord {
+    // The force word of a number.
     pub fn new(number: u32) -> ForceWord
         ensures { λ r. ⌜ r .word ≡ number ⌝ }
     {
         ForceWord { word: number }
     }
 
+    // The number of a force word.
     pub fn number(&self) -> u32
         ensures { λ r. ⌜ r ≡ now (self .entry) .word ⌝ }
     {

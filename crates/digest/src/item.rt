@@ -14,7 +14,8 @@ pub trait Item {
 
     law each_byte: { (a : Self) → Bytes (bytes a) };
 
-    // no item's string begins another's, unless the two strings are equal
+    // no item's string begins another's, unless the two strings are equal:
+    // so a list of items can be told from its joined string
     law prefix_free: { (a b : Self) (t : List ℕ) → bytes a ++ t ≡ bytes b → bytes a ≡ bytes b };
 
     fn len(&self) -> usize

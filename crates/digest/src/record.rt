@@ -7,7 +7,7 @@ use crate::feeding::Feeding;
 use engine::engine::Engine;
 
 // The number of bytes in a hash.
-pub const HASH: usize = 32;
+pub const HASH_LEN: usize = 32;
 
 // Fills a buffer with the long output of a string. The engine comes back cleared.
 pub fn digest_string<E: Engine>(engine: E, string: &[u8], out: &mut [u8]) -> E
@@ -19,11 +19,11 @@ pub fn digest_string<E: Engine>(engine: E, string: &[u8], out: &mut [u8]) -> E
 }
 
 // The hash of a string. The engine comes back cleared.
-pub fn hash_string<E: Engine>(engine: E, string: &[u8]) -> (E, [u8; HASH])
-    ensures hash { λ r. ⌜ r .1 ≡ hash rule (now (string .entry)) ⌝ }
+pub fn hash_string<E: Engine>(engine: E, string: &[u8]) -> (E, [u8; HASH_LEN])
+    ensures bytes { λ r. ⌜ r .1 ≡ hash rule (now (string .entry)) ⌝ }
     ensures cleared { λ r. ⌜ meaning (r .0) ≡ zeros ⌝ }
 {
-    let mut out = [0; HASH];
+    let mut out = [0; HASH_LEN];
     let engine = digest_string(engine, string, &mut out);
     (engine, out)
 }
@@ -36,8 +36,8 @@ pub fn digest_two<E: Engine>(
     second: &[u8],
     second_out: &mut [u8],
 ) -> E
-    ensures first { λ _. ⌜ now («first_out» .exit) ≡ output rule (now (first .entry)) (length (now («first_out» .exit))) ⌝ }
-    ensures second { λ _. ⌜ now («second_out» .exit) ≡ output rule (now (second .entry)) (length (now («second_out» .exit))) ⌝ }
+    ensures first_bytes { λ _. ⌜ now («first_out» .exit) ≡ output rule (now (first .entry)) (length (now («first_out» .exit))) ⌝ }
+    ensures second_bytes { λ _. ⌜ now («second_out» .exit) ≡ output rule (now (second .entry)) (length (now («second_out» .exit))) ⌝ }
     ensures cleared { λ r. ⌜ meaning r ≡ zeros ⌝ }
 {
     let drawing = Feeding::begin(engine)

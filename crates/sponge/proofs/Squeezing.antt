@@ -5,14 +5,14 @@ use mathlib.Core.Logic.{inl, inr}
 use Prim.Native.Nat.{ℕ, zero, suc, _+_, _-_, _*_, _/_, _%_, _<_}
 use native.Mathlib.Nat.{zero-add}
 use native.Mathlib.Omega.{arith}
-use lib.ListN.{length, getD, take}
+use lib.ListN.{length, getD, set, take}
 use Rattle.engine.specs.Strings.{Whole}
-use Rattle.std.proofs.shelf.Lists.{append-nil, append-assoc, length-append, length-take-le, take-append-le, take-more, getD-take, getD-append-right}
+use Rattle.std.proofs.shelf.Lists.{append-nil, append-assoc, length-append, length-take-le, take-append-le, take-more, take-more-set, getD-take, getD-append-right}
 use Rattle.std.proofs.shelf.Tests.{cases-eq}
 use Rattle.sponge.specs.Blocks.{rate, squeezed, stream}
 use Rattle.sponge.specs.Steps.{State, at, advanced, squeeze-bytes, squeeze-state, squeezing}
 use Rattle.sponge.specs.Calls.{Squeezes}
-use Rattle.sponge.proofs.Advance.{advanced-end, advanced-within}
+use Rattle.sponge.proofs.Advance.{advanced-end, advanced-within, advanced-read}
 
 module _ (rule : List ℕ → List ℕ) where
   -- the rule applied n times
@@ -110,12 +110,25 @@ module _ (rule : List ℕ → List ℕ) where
         ∙ append-assoc (stream rule s n) (_ ∷ []) (squeeze-bytes rule k (by-blocks s (n + 1)))
         ∙ ap (λ (p : State). stream rule s n ++ getD (by-blocks s n .string) (by-blocks s n .place) 0 ∷ squeeze-bytes rule k p) (sym (by-blocks-push s n))
 
-  -- the first of the bytes that are left, and what it leaves
-  pub squeeze-bytes-next : (p : State) (n i : ℕ) → i < n → squeeze-bytes rule (n - i) p ≡ getD (p .string) (p .place) 0 ∷ squeeze-bytes rule (n - (i + 1)) (advanced rule p)
-  squeeze-bytes-next p n i h = let e : n - i ≡ suc (n - (i + 1)) = omega arith in ap (λ (k : ℕ). squeeze-bytes rule k p) e
+  -- a loop that fills a buffer with n bytes: one byte more, by calls at a place read modulo the rate
+  pub next-out : (out : List ℕ) (n i b : ℕ) (s t : List ℕ) (place r : ℕ) → i < n → length out ≡ n → b ≡ getD s (place % rate) 0 → at t r ≡ advanced rule (at s (place % rate)) → take (i + 1) (set out i b) ++ squeeze-bytes rule (n - (i + 1)) (at t (r % rate)) ≡ take i out ++ squeeze-bytes rule (n - i) (at s (place % rate))
+  next-out out n i b s t place r within long read moved =
+      let here = at s (place % rate) in
+      let there = at t (r % rate) in
+      let k = n - (i + 1) in
+      let inside : i < length out = omega arith in
+      let more : suc k ≡ n - i = omega arith in
+      ap (λ (x : List ℕ). x ++ squeeze-bytes rule k there) (take-more-set out i b inside)
+      ∙ append-assoc (take i out) (b ∷ []) (squeeze-bytes rule k there)
+      ∙ ap (λ (p : State). take i out ++ b ∷ squeeze-bytes rule k p) (advanced-read rule t s place r moved)
+      ∙ ap (λ (x : ℕ). take i out ++ x ∷ squeeze-bytes rule k (advanced rule here)) read
+      ∙ ap (λ (j : ℕ). take i out ++ squeeze-bytes rule j here) more
 
-  pub squeeze-state-next : (p : State) (n i : ℕ) → i < n → squeeze-state rule (n - i) p ≡ squeeze-state rule (n - (i + 1)) (advanced rule p)
-  squeeze-state-next p n i h = let e : n - i ≡ suc (n - (i + 1)) = omega arith in ap (λ (k : ℕ). squeeze-state rule k p) e
+  pub next-state : (n i : ℕ) (s t : List ℕ) (place r : ℕ) → i < n → at t r ≡ advanced rule (at s (place % rate)) → squeeze-state rule (n - (i + 1)) (at t (r % rate)) ≡ squeeze-state rule (n - i) (at s (place % rate))
+  next-state n i s t place r within moved =
+      let more : suc (n - (i + 1)) ≡ n - i = omega arith in
+      ap (squeeze-state rule (n - (i + 1))) (advanced-read rule t s place r moved)
+      ∙ ap (λ (j : ℕ). squeeze-state rule j (at s (place % rate))) more
 
   -- bytes given out one piece after another are given out in one piece
   squeeze-state-add : (n k : ℕ) (p : State) → squeeze-state rule (n + k) p ≡ squeeze-state rule k (squeeze-state rule n p)

@@ -49,7 +49,7 @@ module _ (rule : List ℕ → List ℕ) where
       let b = drop (rate * n) m in
       cipher-full n s m ++ take (length b) (mixed (after-full n s m) b)
 
-  -- ciphertext and tag, in one go
+  -- ciphertext and tag, in one go; the tag is the first block that the end gives
   unfoldable pub sealed-box : List ℕ → List ℕ → List ℕ → List ℕ → List ℕ
   sealed-box key nonce ad m =
       let s = absorbed (rule (nonce ++ key)) ad in
