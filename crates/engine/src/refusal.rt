@@ -8,6 +8,8 @@ pub enum Refusal {
     PlaceOutsideState,
     // a mask of a three-share engine is not 48 bytes
     MaskLength,
+    // the text of a note is longer than 28 bytes
+    NoteLength,
     // the round viewer's input is not a request
     ViewerInput,
 }
@@ -20,6 +22,7 @@ impl Refusal {
         match self {
             Refusal::PlaceOutsideState => 1,
             Refusal::MaskLength => 2,
+            Refusal::NoteLength => 10,
             Refusal::ViewerInput => 11,
         }
     }

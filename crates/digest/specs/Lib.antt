@@ -1,0 +1,4 @@
+pub mod Digests
+pub mod ForceWords
+pub mod Items
+pub mod Notes

@@ -1,0 +1,3 @@
+pub mod Absorbing
+pub mod Advance
+pub mod Squeezing
