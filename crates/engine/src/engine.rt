@@ -20,7 +20,7 @@ pub trait Engine {
 
     law whole: { (e : Self) → Whole (meaning e) };
 
-    law rule_whole: { (s : List ℕ) → Whole s → Whole (rule s) };
+    law keeps: { (s : List ℕ) → Whole s → Whole (rule s) };
 
     fn clear(&mut self)
         ensures { λ _. ⌜ meaning (now (self .exit)) ≡ zeros ⌝ };

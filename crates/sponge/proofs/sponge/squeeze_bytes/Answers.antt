@@ -42,7 +42,7 @@ returns g c =
     let none : 0 ≡ n - i = omega arith in
     let long : n ≡ length out = sym (c .loop-b .kept .out) in
     let all : out ≡ take i out = sym (take-all i out (omega arith)) in
-    squeezes (e .rule) (g .E·Engine·met .«rule_whole») start out here
+    squeezes (e .rule) (g .E·Engine·met .keeps) start out here
     (
     all
     ∙ sym (append-nil (take i out))

@@ -1,0 +1,56 @@
+// Whole records, made of the calls of this crate.
+ghost use mathlib.Core.Path.{_≡_};
+ghost use mathlib.Core.List.{[]};
+ghost use Rattle.engine.specs.Strings.{zeros};
+ghost use Rattle.sponge.specs.Blocks.{sealed-box};
+ghost use Rattle.cipher.specs.Keys.{key-bytes};
+ghost use Rattle.cipher.specs.Nonces.{issued-bytes};
+ghost use Rattle.cipher.specs.Sealings.{Sealed};
+use crate::book::IssuedNonce;
+use crate::closed::TAG_LEN;
+use crate::key::Key;
+use crate::sealing::Sealing;
+use engine::engine::Engine;
+use engine::refusal::Refusal;
+
+// Seals one message in one piece. The engine comes back cleared.
+pub fn seal_message<E: Engine>(
+    engine: E,
+    key: &Key,
+    nonce: IssuedNonce,
+    ad: &[u8],
+    message: &[u8],
+    buffer: &mut [u8],
+    tag: &mut [u8; TAG_LEN],
+) -> (E, Result<usize, Refusal>)
+    ensures seals { λ r. ⌜ Sealed rule (key-bytes (now (key .entry))) (issued-bytes nonce) (now (ad .entry)) (now (message .entry)) (now (buffer .entry)) (r .1) (now (buffer .exit)) (now (tag .entry)) (now (tag .exit)) ⌝ }
+    ensures cleared { λ r. ⌜ meaning (r .0) ≡ zeros ⌝ }
+{
+    let sealing = Sealing::start(engine, key, nonce).add(ad);
+    let (closed, answer) = sealing.close().write(message, buffer);
+    match answer {
+        Ok(n) => (closed.finish(tag), Ok(n)),
+        Err(e) => (closed.release(), Err(e)),
+    }
+}
+
+// Tags two strings of associated data, each with an empty message and a nonce of its own, on one engine.
+pub fn tag_two<E: Engine>(
+    engine: E,
+    key: &Key,
+    first_nonce: IssuedNonce,
+    first: &[u8],
+    first_tag: &mut [u8; TAG_LEN],
+    second_nonce: IssuedNonce,
+    second: &[u8],
+    second_tag: &mut [u8; TAG_LEN],
+) -> E
+    ensures first { λ _. ⌜ now («first_tag» .exit) ≡ sealed-box rule (key-bytes (now (key .entry))) (issued-bytes «first_nonce») (now (first .entry)) [] ⌝ }
+    ensures second { λ _. ⌜ now («second_tag» .exit) ≡ sealed-box rule (key-bytes (now (key .entry))) (issued-bytes «second_nonce») (now (second .entry)) [] ⌝ }
+    ensures cleared { λ r. ⌜ meaning r ≡ zeros ⌝ }
+{
+    let sealing = Sealing::start(engine, key, first_nonce).add(first);
+    let engine = sealing.close().finish(first_tag);
+    let sealing = Sealing::start(engine, key, second_nonce).add(second);
+    sealing.close().finish(second_tag)
+}
