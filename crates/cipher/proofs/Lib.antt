@@ -1,0 +1,6 @@
+pub mod Ciphertexts
+pub mod Counts
+pub mod Messages
+pub mod Steady
+pub mod Tags
+pub mod Xor

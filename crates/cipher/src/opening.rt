@@ -2,8 +2,8 @@
 ghost use mathlib.Core.Path.{_≡_};
 ghost use mathlib.Core.Bool.{true, false};
 ghost use mathlib.Core.List.{List, _++_};
-ghost use Prim.Native.Nat.{ℕ};
-ghost use lib.ListN.{length};
+ghost use Prim.Native.Nat.{ℕ, _≤_};
+ghost use lib.ListN.{length, drop, replicate};
 ghost use Rattle.engine.specs.Strings.{zeros};
 ghost use Rattle.sponge.specs.Calls.{Absorbs, Pads};
 ghost use Rattle.sponge.specs.Steps.{at, standing};
@@ -80,12 +80,11 @@ impl<E: Engine> ClosedOpening<E> {
         if buffer.len() < n {
             return (closed.release(), Err(Refusal::BufferTooShort));
         }
+        let (text, sealed_tag) = sealed.split_at(n);
         let mut tag = [0; TAG_LEN];
-        let engine = closed
-            .decipher(&sealed[0..n], buffer)
-            .finish(&mut tag);
-        if differ(&tag, &sealed[n..sealed.len()]) {
-            buffer[0..n].fill(0);
+        let engine = closed.decipher(text, buffer).finish(&mut tag);
+        if differ(&tag, sealed_tag) {
+            wipe(buffer, n);
             return (engine, Err(Refusal::TagDiffers));
         }
         (engine, Ok(n))
@@ -111,4 +110,12 @@ fn differ(a: &[u8], b: &[u8]) -> bool
         differences |= *x ^ b[i];
     }
     differences != 0
+}
+
+// Overwrites the first n bytes of a buffer with zeros.
+fn wipe(buffer: &mut [u8], n: usize)
+    requires { ⌜ n ≤ length (now buffer) ⌝ }
+    ensures { λ _. ⌜ now (buffer .exit) ≡ replicate n 0 ++ drop n (now (buffer .entry)) ⌝ }
+{
+    buffer[0..n].fill(0);
 }
