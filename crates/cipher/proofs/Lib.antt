@@ -1,3 +1,4 @@
+pub mod Buffers
 pub mod Ciphertexts
 pub mod Counts
 pub mod Messages
