@@ -110,7 +110,7 @@ module _ (rule : List ℕ → List ℕ) where
       ∙ ap (λ (o : State). (ciphertext rule s a ++ shown p b) ++ shown-piece o bs) (sym (by-blocks-push rule s a b))
       ∙ append-assoc (ciphertext rule s a) (shown p b) (shown-piece (absorb-byte rule p b) bs)
 
-  ciphertext-none : (s : List ℕ) → ciphertext rule s [] ≡ []
+  pub ciphertext-none : (s : List ℕ) → ciphertext rule s [] ≡ []
   unfolding ciphertext cipher-full
   ciphertext-none s = refl
 

@@ -1,6 +1,21 @@
-use borrow.Author.Needs.{needs}
+use mathlib.Core.Path.{subst}
+use Prim.Native.Nat.{ℕ}
+use Rattle.std.specs.declared.result.Result.{Result}
+use Rattle.engine.specs.declared.refusal.Refusal.{Refusal}
+use Rattle.cipher.specs.Sealings.{Wrote}
+use Rattle.cipher.proofs.Records.{closed-state, message-box, rest-stays}
 use Rattle.cipher.proofs.record.seal_message.Needs as need
 
--- src/record.rt:17:1
 pub returns-in-Ok : need.returns-in-Ok
-returns-in-Ok g c = ?
+returns-in-Ok g c =
+    let e = g .E·Engine in
+    let key = c .args .key .now .bytes in
+    let nonce = c .args .nonce .bytes in
+    let ad = c .args .ad .now in
+    let m = c .args .message .now in
+    let closed = closed-state (e .rule) key nonce ad _ _ _ (c .start .ensures .state) (c .add-sealing .ensures) (c .close .ensures) in
+    let wrote = subst (λ (r : Result ℕ Refusal). Wrote (e .meaning) (e .rule) (c .close .result) m (c .args .buffer .now) (c .write-closed .result .0) r (c .write-closed .last .buffer)) (c .in-Ok .is) (c .write-closed .ensures) in
+    record {
+      seals = (wrote .0, wrote .1, message-box (e .rule) key nonce ad m _ _ _ _ _ closed (wrote .2) (c .finish .ensures .tag), rest-stays (e .rule) m _ _ _ _ (wrote .2));
+      cleared = c .finish .ensures .cleared;
+    }
