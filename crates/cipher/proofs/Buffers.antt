@@ -5,9 +5,9 @@ use Prim.Native.Nat.{ℕ, _+_, _%_, _≤_, _<_}
 use native.Mathlib.Omega.{arith}
 use lib.Bits.{bitXor}
 use lib.ListN.{length, getD, set, take, drop}
-use Rattle.std.proofs.shelf.Lists.{append-assoc, length-take-le, set-at, take-more, take-more-set, drop-more, drop-drop, drop-set-lt}
+use Rattle.std.proofs.shelf.Lists.{append-assoc, length-take-le, set-at, take-at, take-more, take-more-set, drop-more, drop-drop, drop-set-lt}
 use Rattle.engine.specs.Strings.{Bytes, Whole}
-use Rattle.sponge.specs.Blocks.{rate}
+use Rattle.sponge.specs.Blocks.{ciphertext}
 use Rattle.sponge.specs.Steps.{State, at, absorb-byte, absorb-piece}
 use Rattle.sponge.proofs.Absorbing.{absorbs, absorb-piece-append}
 use Rattle.cipher.specs.Ciphering.{keyed, cipher-piece, Ciphers}
@@ -58,8 +58,11 @@ module _ (rule : List ℕ → List ℕ) where
     taken-next is = is ∙ absorb-push p here (take i buffer) b led ∙ ap (absorb-piece rule p) (sym front-next)
 
   pub ciphers : ((s : List ℕ) → Whole s → Whole (rule s)) → (p : State) (piece before after : List ℕ) (q : State) → Steady p → Bytes piece → after ≡ cipher-piece rule p piece ++ drop (length piece) before → q ≡ absorb-piece rule p piece → Ciphers rule p piece before after q
-  ciphers keeps p piece before after q w h e f = record {
-    buffer = e;
-    state = absorbs rule p piece q f;
-    whole = λ s m led. pieces-join rule keeps s m piece p led w h;
-  }
+  ciphers keeps p piece before after q w h e f =
+      let text : cipher-piece rule p piece ≡ take (length piece) after =
+      sym (ap (take (length piece)) e ∙ take-at (cipher-piece rule p piece) _ (length piece) (length-cipher-piece rule p piece)) in
+      record {
+        buffer = e;
+        state = absorbs rule p piece q f;
+        whole = λ s m led. pieces-join rule keeps s m piece p led w h ∙ ap (λ (x : List ℕ). ciphertext rule s m ++ x) text;
+      }

@@ -3,7 +3,7 @@ use mathlib.Core.Path.{_≡_, refl, sym, ap, _∙_}
 use mathlib.Core.List.{List, [], _++_}
 use Prim.Native.Nat.{ℕ}
 use lib.ListN.{length, take, drop}
-use Rattle.std.proofs.shelf.Lists.{take-at, drop-at}
+use Rattle.std.proofs.shelf.Lists.{drop-at}
 use Rattle.sponge.specs.Blocks.{rate, absorbed, ciphertext, boxed, sealed-box}
 use Rattle.sponge.specs.Calls.{Absorbs, Pads}
 use Rattle.sponge.specs.Steps.{State, at, absorb-piece, absorbing}
@@ -26,9 +26,7 @@ module _ (rule : List ℕ → List ℕ) where
   message-box key nonce ad m before after tag r o e c t =
       let s = absorbed rule (rule (nonce ++ key)) ad in
       let text : take (length m) after ≡ ciphertext rule s m =
-      ap (take (length m)) (c .buffer)
-      ∙ take-at (cipher-piece rule r m) _ (length m) (length-cipher-piece rule r m)
-      ∙ sym (c .whole s [] e ∙ ap (λ (x : List ℕ). x ++ cipher-piece rule r m) (ciphertext-none rule s)) in
+      sym (c .whole s [] e ∙ ap (λ (x : List ℕ). x ++ take (length m) after) (ciphertext-none rule s)) in
       ap (λ (x : List ℕ). x ++ tag) text ∙ t .box s m (c .state .piecewise (at s 0) [] e)
 
   pub rest-stays : (m before after : List ℕ) (r o : State) → Ciphers rule r m before after o → drop (length m) after ≡ drop (length m) before

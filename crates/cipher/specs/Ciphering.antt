@@ -24,7 +24,7 @@ module _ (rule : List ℕ → List ℕ) where
     pub buffer : after ≡ cipher-piece p piece ++ drop (length piece) before
     pub state : Absorbs rule p piece q
     -- the ciphertexts of a message's pieces, joined, are the ciphertext of the message, as its blocks have it
-    pub whole : (s m : List ℕ) → p ≡ absorbing rule s m → ciphertext rule s (m ++ piece) ≡ ciphertext rule s m ++ cipher-piece p piece
+    pub whole : (s m : List ℕ) → p ≡ absorbing rule s m → ciphertext rule s (m ++ piece) ≡ ciphertext rule s m ++ take (length piece) after
 
   -- a text deciphered into a buffer, from the state p to q
   pub record Deciphers (p : State) (text before after : List ℕ) (q : State) : Type 0 where

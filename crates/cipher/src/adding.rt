@@ -26,8 +26,7 @@ impl<E: Engine> Adding<E> {
         ensures boxes { λ _. ⌜ Boxes rule (key-bytes (now (key .entry))) (now (nonce .entry)) ⌝ }
     {
         let Sponge { mut engine, place } = Sponge::new(engine);
-        load(&mut engine, 0, nonce);
-        load(&mut engine, NONCE_LEN, key.bytes());
+        load(&mut engine, key, nonce);
         engine.permute();
         Adding {
             sponge: Sponge { engine, place },
@@ -63,8 +62,18 @@ impl<E: Engine> Adding<E> {
     }
 }
 
+// Loads an engine of zeros with a nonce, then a key.
+fn load<E: Engine>(engine: &mut E, key: &Key, nonce: &[u8; NONCE_LEN])
+    requires { ⌜ meaning (now engine) ≡ zeros ⌝ }
+    ensures state { λ _. ⌜ meaning (now (engine .exit)) ≡ now (nonce .entry) ++ key-bytes (now (key .entry)) ⌝ }
+    ensures boxes { λ _. ⌜ Boxes rule (key-bytes (now (key .entry))) (now (nonce .entry)) ⌝ }
+{
+    load_from(engine, 0, nonce);
+    load_from(engine, NONCE_LEN, key.bytes());
+}
+
 // Changes the bytes from a place on by xor with a string's.
-fn load<E: Engine>(engine: &mut E, place: usize, string: &[u8])
+fn load_from<E: Engine>(engine: &mut E, place: usize, string: &[u8])
     requires { ⌜ place + length (now string) ≤ width ⌝ }
     ensures { λ _. ⌜ ((s front : List ℕ) → length front ≡ place → meaning (now (engine .entry)) ≡ mixed s front → meaning (now (engine .exit)) ≡ mixed s (front ++ now (string .entry))) ⌝ }
 {

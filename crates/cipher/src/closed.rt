@@ -7,16 +7,13 @@ ghost use Rattle.engine.specs.Strings.{zeros};
 ghost use Rattle.sponge.specs.Blocks.{rate};
 ghost use Rattle.sponge.specs.Steps.{at, standing, absorb-piece};
 ghost use Rattle.cipher.specs.Ciphering.{cipher-piece, Ciphers, Deciphers, Tags};
+use crate::sealing::TAG_LEN;
 use engine::engine::Engine;
-use sponge::block::RATE;
 use sponge::block::absorb_byte;
 use sponge::block::advance;
 use sponge::block::byte_at;
 use sponge::block::xor_in;
 use sponge::sponge::Sponge;
-
-// The number of bytes in a tag.
-pub const TAG_LEN: usize = RATE;
 
 pub(crate) struct Closed<E> {
     pub(crate) sponge: Sponge<E>,

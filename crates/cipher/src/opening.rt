@@ -12,9 +12,9 @@ ghost use Rattle.cipher.specs.Nonces.{box-nonce-bytes};
 ghost use Rattle.cipher.specs.Openings.{Opens};
 use crate::adding::Adding;
 use crate::closed::Closed;
-use crate::closed::TAG_LEN;
 use crate::key::Key;
 use crate::nonce::BoxNonce;
+use crate::sealing::TAG_LEN;
 use engine::engine::Engine;
 use engine::refusal::Refusal;
 

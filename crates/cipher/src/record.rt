@@ -7,9 +7,9 @@ ghost use Rattle.cipher.specs.Keys.{key-bytes};
 ghost use Rattle.cipher.specs.Nonces.{issued-bytes};
 ghost use Rattle.cipher.specs.Sealings.{Sealed};
 use crate::book::IssuedNonce;
-use crate::closed::TAG_LEN;
 use crate::key::Key;
 use crate::sealing::Sealing;
+use crate::sealing::TAG_LEN;
 use engine::engine::Engine;
 use engine::refusal::Refusal;
 

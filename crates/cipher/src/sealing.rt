@@ -12,10 +12,13 @@ ghost use Rattle.cipher.specs.Sealings.{Wrote};
 use crate::adding::Adding;
 use crate::book::IssuedNonce;
 use crate::closed::Closed;
-use crate::closed::TAG_LEN;
 use crate::key::Key;
 use engine::engine::Engine;
 use engine::refusal::Refusal;
+use sponge::block::RATE;
+
+// The number of bytes in a tag.
+pub const TAG_LEN: usize = RATE;
 
 pub struct Sealing<E> {
     adding: Adding<E>,

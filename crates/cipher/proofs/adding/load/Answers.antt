@@ -1,36 +1,34 @@
-use mathlib.Core.Path.{_≡_, sym, ap, _∙_}
+use mathlib.Core.Path.{_≡_, refl, sym, ap, _∙_, subst}
 use mathlib.Core.List.{List, [], _∷_, _++_}
-use Prim.Native.Nat.{ℕ, _+_, _<_}
+use Prim.Native.Nat.{ℕ, zero, suc}
 use native.Mathlib.Omega.{arith}
-use lib.ListN.{length, getD, take}
-use Rattle.std.specs.declared.result.Result.{Result}
-use Rattle.std.specs.declared.result.Result.the-variants.{Ok, Err}
-use Rattle.std.proofs.shelf.Lists.{append-assoc, length-append, length-take-le, take-all, take-more}
-use Rattle.engine.specs.Answers.{Xored}
-use Rattle.engine.specs.Strings.{width, xored}
-use Rattle.engine.specs.declared.refusal.Refusal.{Refusal}
+use lib.ListN.{length, replicate}
+use Rattle.std.proofs.shelf.Lists.{length-append}
+use Rattle.engine.specs.Strings.{width, zeros, Whole}
 use Rattle.sponge.specs.Blocks.{mixed}
-use Rattle.sponge.proofs.Absorbing.{mixed-push}
+use Rattle.sponge.proofs.Absorbing.{mixed-none}
+use Rattle.cipher.proofs.Messages.{boxes}
 use Rattle.cipher.proofs.adding.load.Needs as need
 
-within : (before : List ℕ) (place b : ℕ) (r : Result Unit Refusal) (after : List ℕ) → place < width → Xored before place b r after → after ≡ xored before place b
-within before place b (Ok x) after h e = e .1
-within before place b (Err x) after h e = absurd (omega (arith, e .0))
-
-pub loop-i-again : need.loop-i-again
-loop-i-again g c s front e f =
-    let i = c .loop-i .i in
-    let place = c .args .place in
-    let string = c .args .string .now in
-    let b = getD string i 0 in
-    let loaded = front ++ take i string in
-    let inside = c .loop-i-test .taken in
-    let long : length loaded ≡ place + i = length-append front (take i string) ∙ omega (arith, length-take-le i string (omega arith)) in
-    within _ (place + i) b (c .xor-byte .result) _ (omega (arith, c .pre)) (c .xor-byte .ensures)
-    ∙ ap (λ (t : List ℕ). xored t (place + i) b) (c .loop-i .inv s front e f)
-    ∙ ap (λ (k : ℕ). xored (mixed s loaded) k b) (sym long)
-    ∙ sym (mixed-push s loaded b)
-    ∙ ap (mixed s) (append-assoc front (take i string) (b ∷ []) ∙ ap (λ (t : List ℕ). front ++ t) (sym (take-more string i 0 inside)))
+-- a string loaded into zeros stands there
+mixed-zeros : (n : ℕ) (m : List ℕ) → length m ≡ n → mixed (replicate n 0) m ≡ m
+unfolding mixed
+mixed-zeros zero [] e = refl
+mixed-zeros zero (b ∷ m) e = absurd (omega arith)
+mixed-zeros (suc n) [] e = absurd (omega arith)
+mixed-zeros (suc n) (b ∷ m) e = ap (λ (t : List ℕ). b ∷ t) (mixed-zeros n m (omega arith))
 
 pub returns : need.returns
-returns g c s front e f = c .loop-i .inv s front e f ∙ ap (λ (t : List ℕ). mixed s (front ++ t)) (take-all (c .loop-i .i) (c .args .string .now) (c .loop-i-test .left))
+returns g c =
+    let e = g .E·Engine in
+    let nonce = c .args .nonce .now in
+    let key = c .bytes .result .now in
+    let start : e .meaning (c .args .engine .now) ≡ mixed zeros [] = c .pre ∙ sym (mixed-none zeros) in
+    let filled = c .load-from-2 .ensures zeros nonce (c .told-nonce) (c .load-from .ensures zeros [] refl start) in
+    let long : length (nonce ++ key) ≡ width = length-append nonce key ∙ omega arith in
+    let loaded : e .meaning (c .load-from-2 .last .engine) ≡ nonce ++ c .args .key .now .bytes =
+    filled ∙ mixed-zeros width (nonce ++ key) long ∙ ap (λ (t : List ℕ). nonce ++ t) (c .bytes .ensures) in
+    record {
+      state = loaded;
+      boxes = boxes (e .rule) (g .E·Engine·met .keeps) _ nonce (g .E·Engine·met .keeps _ (subst Whole loaded (g .E·Engine·met .whole (c .load-from-2 .last .engine))));
+    }

@@ -3,7 +3,7 @@ use mathlib.Core.List.{List, _++_}
 use Prim.Native.Nat.{ℕ}
 use lib.ListN.{length, take}
 use Rattle.sponge.specs.Blocks.{mixed}
-use Rattle.cipher.proofs.adding.load.Given as given
+use Rattle.cipher.proofs.adding.load_from.Given as given
 
 -- the front of the string is loaded
 abbrev pub Inv-loop-i : given.InvT-loop-i
