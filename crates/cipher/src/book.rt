@@ -1,6 +1,7 @@
 // A nonce book: the one maker of the nonces that seal.
 ghost use mathlib.Core.Path.{_≡_};
-ghost use Rattle.cipher.specs.Nonces.{issued-bytes, nonce-of, BookMade, Issued};
+ghost use Prim.Native.Nat.{ℕ, _<_};
+ghost use Rattle.cipher.specs.Nonces.{issued-bytes, nonce-of, last-count, BookMade, Issued};
 use crate::nonce::NONCE_LEN;
 use engine::refusal::Refusal;
 
@@ -44,11 +45,12 @@ impl NonceBook {
     pub fn issue(&mut self) -> Result<IssuedNonce, Refusal>
         ensures { λ r. ⌜ Issued (now (self .entry)) r (now (self .exit)) ⌝ }
     {
-        if self.count == u32::MAX {
+        let NonceBook { name, count } = self;
+        if *count == u32::MAX {
             return Err(Refusal::BookUsedUp);
         }
-        let bytes = nonce_bytes(&self.name, self.count);
-        self.count += 1;
+        let bytes = nonce_bytes(name, *count);
+        *count += 1;
         Ok(IssuedNonce { bytes })
     }
 
@@ -69,7 +71,8 @@ impl NonceBook {
 
 // The name, then the count as four bytes, lowest first.
 fn nonce_bytes(name: &[u8; NAME_LEN], count: u32) -> [u8; NONCE_LEN]
-    ensures { λ r. ⌜ r ≡ nonce-of (now (name .entry)) count ⌝ }
+    ensures bytes { λ r. ⌜ r ≡ nonce-of (now (name .entry)) count ⌝ }
+    ensures sole { λ r. ⌜ ((k : ℕ) → k < last-count → r ≡ nonce-of (now (name .entry)) k → k ≡ count) ⌝ }
 {
     let mut bytes = [0; NONCE_LEN];
     bytes[0..NAME_LEN].copy_from_slice(name);

@@ -73,21 +73,7 @@ impl<E: Engine> ClosedOpening<E> {
         ensures cleared { λ r. ⌜ meaning (r .0) ≡ zeros ⌝ }
     {
         let ClosedOpening { closed } = self;
-        if sealed.len() < TAG_LEN {
-            return (closed.release(), Err(Refusal::BoxTooShort));
-        }
-        let n = sealed.len() - TAG_LEN;
-        if buffer.len() < n {
-            return (closed.release(), Err(Refusal::BufferTooShort));
-        }
-        let (text, sealed_tag) = sealed.split_at(n);
-        let mut tag = [0; TAG_LEN];
-        let engine = closed.decipher(text, buffer).finish(&mut tag);
-        if differ(&tag, sealed_tag) {
-            wipe(buffer, n);
-            return (engine, Err(Refusal::TagDiffers));
-        }
-        (engine, Ok(n))
+        open_box(closed, sealed, buffer)
     }
 
     // Gives the opening up. The engine comes back cleared.
@@ -97,6 +83,32 @@ impl<E: Engine> ClosedOpening<E> {
         let ClosedOpening { closed } = self;
         closed.release()
     }
+}
+
+// The tag is known only once the text is deciphered, so the message of a refused box is overwritten.
+fn open_box<E: Engine>(
+    closed: Closed<E>,
+    sealed: &[u8],
+    buffer: &mut [u8],
+) -> (E, Result<usize, Refusal>)
+    ensures opens { λ r. ⌜ ((s : List ℕ) → standing meaning (closed .sponge) ≡ at s 0 → Opens rule s (now (sealed .entry)) (now (buffer .entry)) (now (buffer .exit)) (r .1)) ⌝ }
+    ensures cleared { λ r. ⌜ meaning (r .0) ≡ zeros ⌝ }
+{
+    if sealed.len() < TAG_LEN {
+        return (closed.release(), Err(Refusal::BoxTooShort));
+    }
+    let n = sealed.len() - TAG_LEN;
+    if buffer.len() < n {
+        return (closed.release(), Err(Refusal::BufferTooShort));
+    }
+    let (text, sealed_tag) = sealed.split_at(n);
+    let mut tag = [0; TAG_LEN];
+    let engine = closed.decipher(text, buffer).finish(&mut tag);
+    if differ(&tag, sealed_tag) {
+        wipe(buffer, n);
+        return (engine, Err(Refusal::TagDiffers));
+    }
+    (engine, Ok(n))
 }
 
 // Whether two strings of one length differ. Every byte is looked at, wherever the first difference is.

@@ -5,6 +5,8 @@ use native.Mathlib.Omega.{arith}
 use borrow.Rule.Slice.PartMut.{putMid, postOf}
 use lib.ListN.{length, drop}
 use Rattle.std.proofs.shelf.Lists.{append-nil, length-append, take-at, drop-at}
+use Rattle.cipher.specs.Nonces.{nonce-of}
+use Rattle.cipher.proofs.Counts.{nonces-apart}
 use Rattle.cipher.proofs.book.nonce_bytes.Needs as need
 
 joined : (x y : List ℕ) → length x ≡ 12 → putMid 12 4 (x ++ 0 ∷ 0 ∷ 0 ∷ 0 ∷ []) y ≡ x ++ y
@@ -23,6 +25,13 @@ pub returns : need.returns
 returns c =
     let x = c .copy-from-slice .last .self in
     let y = c .copy-from-slice-2 .last .self in
+    let name = c .args .name .now in
+    let count = c .args .count in
+    let is : putMid 12 4 (x ++ 0 ∷ 0 ∷ 0 ∷ 0 ∷ []) y ≡ nonce-of name count =
     joined x y (c .copy-from-slice .ensures .len)
     ∙ ap (λ (t : List ℕ). t ++ y) (c .copy-from-slice .ensures .after)
-    ∙ ap (λ (t : List ℕ). c .args .name .now ++ t) (c .copy-from-slice-2 .ensures .after ∙ c .to-le-bytes .ensures)
+    ∙ ap (λ (t : List ℕ). name ++ t) (c .copy-from-slice-2 .ensures .after ∙ c .to-le-bytes .ensures) in
+    record {
+      bytes = is;
+      sole = λ k h e. nonces-apart name k count (omega arith) (omega arith) (sym e ∙ is);
+    }

@@ -9,13 +9,13 @@ use Rattle.engine.specs.Strings.{Bytes}
 use Rattle.sponge.specs.Blocks.{rate}
 use Rattle.sponge.specs.Steps.{standing}
 use Rattle.cipher.proofs.Messages.{bytes-take, opens, is-box, no-box}
-use Rattle.cipher.proofs.opening.ClosedOpening.open.Needs as need
+use Rattle.cipher.proofs.opening.open_box.Needs as need
 
 pub returns-then-sealed-lt-TAG-LEN : need.returns-then-sealed-lt-TAG-LEN
 returns-then-sealed-lt-TAG-LEN g c =
     let met = g .E·Engine·met in
     record {
-      opens = opens (g .E·Engine .rule) (met .keeps) _ _ _ _ _ (met .whole (c .args .self .closed .sponge .engine)) (λ i. omega (arith, c .typed .sealed i))
+      opens = opens (g .E·Engine .rule) (met .keeps) _ _ _ _ _ (met .whole (c .args .closed .sponge .engine)) (λ i. omega (arith, c .typed .sealed i))
       (λ s w start. inl (record { number-is = refl; short = c .if-sealed-lt-TAG-LEN .taken; buffer = refl }));
       cleared = c .release .ensures;
     }
@@ -24,7 +24,7 @@ pub returns-then-buffer-n : need.returns-then-buffer-n
 returns-then-buffer-n g c =
     let met = g .E·Engine·met in
     record {
-      opens = opens (g .E·Engine .rule) (met .keeps) _ _ _ _ _ (met .whole (c .args .self .closed .sponge .engine)) (λ i. omega (arith, c .typed .sealed i))
+      opens = opens (g .E·Engine .rule) (met .keeps) _ _ _ _ _ (met .whole (c .args .closed .sponge .engine)) (λ i. omega (arith, c .typed .sealed i))
       (λ s w start. inr (inl (record { number-is = refl; long = c .if-sealed-lt-TAG-LEN .left; short = c .if-buffer-n .taken; buffer = refl })));
       cleared = c .release-then-buffer-n .ensures;
     }
@@ -43,7 +43,7 @@ returns-then-differ g c =
     let rest : drop n after ≡ drop n before =
     ap (λ (k : ℕ). drop k after) (sym (c .split-at .ensures .front-len)) ∙ c .decipher .ensures .rest ∙ ap (λ (k : ℕ). drop k before) (c .split-at .ensures .front-len) in
     record {
-      opens = opens (g .E·Engine .rule) (met .keeps) _ _ _ _ _ (met .whole (c .args .self .closed .sponge .engine)) bytes
+      opens = opens (g .E·Engine .rule) (met .keeps) _ _ _ _ _ (met .whole (c .args .closed .sponge .engine)) bytes
       (λ s w start. inr (inr (record {
         number-is = refl;
         long = c .if-sealed-lt-TAG-LEN .left;
@@ -70,7 +70,7 @@ returns g c =
     let room : length text ≤ length before = omega arith in
     let long : length m ≡ length text = length-take-le (length text) after (omega arith) in
     record {
-      opens = opens (g .E·Engine .rule) (met .keeps) _ _ _ _ _ (met .whole (c .args .self .closed .sponge .engine)) bytes
+      opens = opens (g .E·Engine .rule) (met .keeps) _ _ _ _ _ (met .whole (c .args .closed .sponge .engine)) bytes
       (λ s w start. (
         m,
         record {
