@@ -52,8 +52,8 @@ module _ (rule : List ℕ → List ℕ) where
       let s′ = rule (mixed s (take rate m)) in
       let rest : drop (rate * n) (drop rate m) ≡ drop (rate * suc n) m = drop-drop (rate * n) rate m ∙ ap (λ (k : ℕ). drop k m) (omega arith) in
       ap (λ (x : List ℕ). take rate (mixed s (take rate m)) ++ x) (
-        cipher-full-more n s′ (drop rate m)
-        ∙ ap (λ (x : List ℕ). cipher-full rule n s′ (drop rate m) ++ take rate (mixed (after-full rule n s′ (drop rate m)) (take rate x))) rest
+      cipher-full-more n s′ (drop rate m)
+      ∙ ap (λ (x : List ℕ). cipher-full rule n s′ (drop rate m) ++ take rate (mixed (after-full rule n s′ (drop rate m)) (take rate x))) rest
       )
       ∙ sym (append-assoc (take rate (mixed s (take rate m))) (cipher-full rule n s′ (drop rate m)) _)
 

@@ -7,3 +7,4 @@ pub mod nonce;
 pub mod opening;
 pub mod record;
 pub mod sealing;
+mod whole_box;

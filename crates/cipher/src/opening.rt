@@ -1,9 +1,7 @@
 // An opening: associated data until close, then a whole box.
 ghost use mathlib.Core.Path.{_≡_};
-ghost use mathlib.Core.Bool.{true, false};
 ghost use mathlib.Core.List.{List, _++_};
-ghost use Prim.Native.Nat.{ℕ, _≤_};
-ghost use lib.ListN.{length, drop, replicate};
+ghost use Prim.Native.Nat.{ℕ};
 ghost use Rattle.engine.specs.Strings.{zeros};
 ghost use Rattle.sponge.specs.Calls.{Absorbs, Pads};
 ghost use Rattle.sponge.specs.Steps.{at, standing};
@@ -14,7 +12,7 @@ use crate::adding::Adding;
 use crate::closed::Closed;
 use crate::key::Key;
 use crate::nonce::BoxNonce;
-use crate::sealing::TAG_LEN;
+use crate::whole_box::open_box;
 use engine::engine::Engine;
 use engine::refusal::Refusal;
 
@@ -83,51 +81,4 @@ impl<E: Engine> ClosedOpening<E> {
         let ClosedOpening { closed } = self;
         closed.release()
     }
-}
-
-// The tag is known only once the text is deciphered, so the message of a refused box is overwritten.
-fn open_box<E: Engine>(
-    closed: Closed<E>,
-    sealed: &[u8],
-    buffer: &mut [u8],
-) -> (E, Result<usize, Refusal>)
-    ensures opens { λ r. ⌜ ((s : List ℕ) → standing meaning (closed .sponge) ≡ at s 0 → Opens rule s (now (sealed .entry)) (now (buffer .entry)) (now (buffer .exit)) (r .1)) ⌝ }
-    ensures cleared { λ r. ⌜ meaning (r .0) ≡ zeros ⌝ }
-{
-    if sealed.len() < TAG_LEN {
-        return (closed.release(), Err(Refusal::BoxTooShort));
-    }
-    let n = sealed.len() - TAG_LEN;
-    if buffer.len() < n {
-        return (closed.release(), Err(Refusal::BufferTooShort));
-    }
-    let (text, sealed_tag) = sealed.split_at(n);
-    let mut tag = [0; TAG_LEN];
-    let engine = closed.decipher(text, buffer).finish(&mut tag);
-    if differ(&tag, sealed_tag) {
-        wipe(buffer, n);
-        return (engine, Err(Refusal::TagDiffers));
-    }
-    (engine, Ok(n))
-}
-
-// Whether two strings of one length differ. Every byte is looked at, wherever the first difference is.
-fn differ(a: &[u8], b: &[u8]) -> bool
-    requires { ⌜ length (now a) ≡ length (now b) ⌝ }
-    ensures same { λ r. ⌜ (r ≡ false → now (a .entry) ≡ now (b .entry)) ⌝ }
-    ensures other { λ r. ⌜ (r ≡ true → now (a .entry) ≡ now (b .entry) → ⊥) ⌝ }
-{
-    let mut differences = 0;
-    for (i, x) in a.iter().enumerate() {
-        differences |= *x ^ b[i];
-    }
-    differences != 0
-}
-
-// Overwrites the first n bytes of a buffer with zeros.
-fn wipe(buffer: &mut [u8], n: usize)
-    requires { ⌜ n ≤ length (now buffer) ⌝ }
-    ensures { λ _. ⌜ now (buffer .exit) ≡ replicate n 0 ++ drop n (now (buffer .entry)) ⌝ }
-{
-    buffer[0..n].fill(0);
 }

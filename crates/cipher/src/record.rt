@@ -1,13 +1,16 @@
 // Whole records, made of the calls of this crate.
 ghost use mathlib.Core.Path.{_≡_};
-ghost use mathlib.Core.List.{[]};
+ghost use mathlib.Core.List.{[], _++_};
 ghost use Rattle.engine.specs.Strings.{zeros};
-ghost use Rattle.sponge.specs.Blocks.{sealed-box};
+ghost use Rattle.sponge.specs.Blocks.{absorbed, sealed-box};
 ghost use Rattle.cipher.specs.Keys.{key-bytes};
-ghost use Rattle.cipher.specs.Nonces.{issued-bytes};
+ghost use Rattle.cipher.specs.Nonces.{issued-bytes, box-nonce-bytes};
+ghost use Rattle.cipher.specs.Openings.{Opens};
 ghost use Rattle.cipher.specs.Sealings.{Sealed};
 use crate::book::IssuedNonce;
 use crate::key::Key;
+use crate::nonce::BoxNonce;
+use crate::opening::Opening;
 use crate::sealing::Sealing;
 use crate::sealing::TAG_LEN;
 use engine::engine::Engine;
@@ -32,6 +35,22 @@ pub fn seal_message<E: Engine>(
         Ok(n) => (closed.finish(tag), Ok(n)),
         Err(e) => (closed.release(), Err(e)),
     }
+}
+
+// Opens one box. The engine comes back cleared.
+pub fn open_message<E: Engine>(
+    engine: E,
+    key: &Key,
+    nonce: &BoxNonce,
+    ad: &[u8],
+    sealed: &[u8],
+    buffer: &mut [u8],
+) -> (E, Result<usize, Refusal>)
+    ensures opens { λ r. ⌜ Opens rule (absorbed rule (rule (box-nonce-bytes (now (nonce .entry)) ++ key-bytes (now (key .entry)))) (now (ad .entry))) (now (sealed .entry)) (now (buffer .entry)) (now (buffer .exit)) (r .1) ⌝ }
+    ensures cleared { λ r. ⌜ meaning (r .0) ≡ zeros ⌝ }
+{
+    let opening = Opening::start(engine, key, nonce).add(ad);
+    opening.close().open(sealed, buffer)
 }
 
 // Tags two strings of associated data, each with an empty message and a nonce of its own, on one engine.

@@ -71,7 +71,11 @@ pub struct ClosedSealing<E> {
 impl<E: Engine> ClosedSealing<E> {
     // Writes the ciphertext of the message's next piece into the first bytes of a buffer, and answers the piece's length.
     // A buffer that is shorter than the piece is refused.
-    pub fn write(self, piece: &[u8], buffer: &mut [u8]) -> (ClosedSealing<E>, Result<usize, Refusal>)
+    pub fn write(
+        self,
+        piece: &[u8],
+        buffer: &mut [u8],
+    ) -> (ClosedSealing<E>, Result<usize, Refusal>)
         ensures { λ r. ⌜ Wrote meaning rule self (now (piece .entry)) (now (buffer .entry)) (r .0) (r .1) (now (buffer .exit)) ⌝ }
     {
         if buffer.len() < piece.len() {

@@ -8,7 +8,7 @@ use lib.ListN.{length, getD, take}
 use Rattle.std.proofs.shelf.Lists.{take-all, take-more, take-more-same, same-from-push}
 use Rattle.std.proofs.shelf.Tests.{not-true, not-false, eqb-true, eqb-false}
 use Rattle.cipher.proofs.Xor.{xor-none, or-none}
-use Rattle.cipher.proofs.opening.differ.Needs as need
+use Rattle.cipher.proofs.whole_box.differ.Needs as need
 
 pub loop-i-again : need.loop-i-again
 loop-i-again c =
@@ -21,8 +21,8 @@ loop-i-again c =
     let in-b : i < length b = omega arith in (
       λ none. take-more-same a b i 0 in-a in-b (c .loop-i .inv .0 (or-none d x none .0)) (xor-none _ _ (or-none d x none .1)),
       λ same.
-      let parts = same-from-push (take i a) (take i b) (getD a i 0) (getD b i 0) (sym (take-more a i 0 in-a) ∙ same ∙ take-more b i 0 in-b) in
-      ap (λ (n : ℕ). bitOr n x) (c .loop-i .inv .1 (parts .0)) ∙ ap (λ (n : ℕ). bitXor n (getD b i 0)) (parts .1) ∙ xor-self (getD b i 0),
+          let parts = same-from-push (take i a) (take i b) (getD a i 0) (getD b i 0) (sym (take-more a i 0 in-a) ∙ same ∙ take-more b i 0 in-b) in
+          ap (λ (n : ℕ). bitOr n x) (c .loop-i .inv .1 (parts .0)) ∙ ap (λ (n : ℕ). bitXor n (getD b i 0)) (parts .1) ∙ xor-self (getD b i 0),
     )
 
 pub returns : need.returns

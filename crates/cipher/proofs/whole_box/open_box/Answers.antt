@@ -9,14 +9,14 @@ use Rattle.engine.specs.Strings.{Bytes}
 use Rattle.sponge.specs.Blocks.{rate}
 use Rattle.sponge.specs.Steps.{standing}
 use Rattle.cipher.proofs.Messages.{bytes-take, opens, is-box, no-box}
-use Rattle.cipher.proofs.opening.open_box.Needs as need
+use Rattle.cipher.proofs.whole_box.open_box.Needs as need
 
 pub returns-then-sealed-lt-TAG-LEN : need.returns-then-sealed-lt-TAG-LEN
 returns-then-sealed-lt-TAG-LEN g c =
     let met = g .E·Engine·met in
     record {
       opens = opens (g .E·Engine .rule) (met .keeps) _ _ _ _ _ (met .whole (c .args .closed .sponge .engine)) (λ i. omega (arith, c .typed .sealed i))
-      (λ s w start. inl (record { number-is = refl; short = c .if-sealed-lt-TAG-LEN .taken; buffer = refl }));
+          (λ s w start. inl (record { number-is = refl; short = c .if-sealed-lt-TAG-LEN .taken; buffer = refl }));
       cleared = c .release .ensures;
     }
 
@@ -25,7 +25,7 @@ returns-then-buffer-n g c =
     let met = g .E·Engine·met in
     record {
       opens = opens (g .E·Engine .rule) (met .keeps) _ _ _ _ _ (met .whole (c .args .closed .sponge .engine)) (λ i. omega (arith, c .typed .sealed i))
-      (λ s w start. inr (inl (record { number-is = refl; long = c .if-sealed-lt-TAG-LEN .left; short = c .if-buffer-n .taken; buffer = refl })));
+          (λ s w start. inr (inl (record { number-is = refl; long = c .if-sealed-lt-TAG-LEN .left; short = c .if-buffer-n .taken; buffer = refl })));
       cleared = c .release-then-buffer-n .ensures;
     }
 
@@ -44,13 +44,13 @@ returns-then-differ g c =
     ap (λ (k : ℕ). drop k after) (sym (c .split-at .ensures .front-len)) ∙ c .decipher .ensures .rest ∙ ap (λ (k : ℕ). drop k before) (c .split-at .ensures .front-len) in
     record {
       opens = opens (g .E·Engine .rule) (met .keeps) _ _ _ _ _ (met .whole (c .args .closed .sponge .engine)) bytes
-      (λ s w start. inr (inr (record {
-        number-is = refl;
-        long = c .if-sealed-lt-TAG-LEN .left;
-        room = c .if-buffer-n .left;
-        none = no-box (g .E·Engine .rule) (met .keeps) s w sealed bytes _ _ text end before after _ start (c .split-at .ensures .places .0) (c .decipher .ensures) (c .finish-engine .ensures .tag) short (c .if-differ .ensures tt .other refl);
-        buffer = c .wipe .ensures ∙ ap (λ (x : List ℕ). replicate n 0 ++ x) rest;
-      })));
+          (λ s w start. inr (inr (record {
+            number-is = refl;
+            long = c .if-sealed-lt-TAG-LEN .left;
+            room = c .if-buffer-n .left;
+            none = no-box (g .E·Engine .rule) (met .keeps) s w sealed bytes _ _ text end before after _ start (c .split-at .ensures .places .0) (c .decipher .ensures) (c .finish-engine .ensures .tag) short (c .if-differ .ensures tt .other refl);
+            buffer = c .wipe .ensures ∙ ap (λ (x : List ℕ). replicate n 0 ++ x) rest;
+          })));
       cleared = c .finish-engine .ensures .cleared;
     }
 
@@ -71,14 +71,14 @@ returns g c =
     let long : length m ≡ length text = length-take-le (length text) after (omega arith) in
     record {
       opens = opens (g .E·Engine .rule) (met .keeps) _ _ _ _ _ (met .whole (c .args .closed .sponge .engine)) bytes
-      (λ s w start. (
-        m,
-        record {
-          box = is-box (g .E·Engine .rule) (met .keeps) s w sealed bytes _ _ text end before after _ start (c .split-at .ensures .places .0) (c .decipher .ensures) (c .finish-engine .ensures .tag) whole (c .if-differ .ensures tt .same refl);
-          answer = sym fits ∙ sym long;
-          room = omega arith;
-          buffer = sym (take-append-drop (length text) after) ∙ ap (λ (x : List ℕ). m ++ x) (c .decipher .ensures .rest) ∙ ap (λ (k : ℕ). m ++ drop k before) (sym long);
-        },
-      ));
+          (λ s w start. (
+            m,
+            record {
+              box = is-box (g .E·Engine .rule) (met .keeps) s w sealed bytes _ _ text end before after _ start (c .split-at .ensures .places .0) (c .decipher .ensures) (c .finish-engine .ensures .tag) whole (c .if-differ .ensures tt .same refl);
+              answer = sym fits ∙ sym long;
+              room = omega arith;
+              buffer = sym (take-append-drop (length text) after) ∙ ap (λ (x : List ℕ). m ++ x) (c .decipher .ensures .rest) ∙ ap (λ (k : ℕ). m ++ drop k before) (sym long);
+            },
+          ));
       cleared = c .finish-engine .ensures .cleared;
     }

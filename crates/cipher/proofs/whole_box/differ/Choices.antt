@@ -1,6 +1,6 @@
 use mathlib.Core.Path.{_≡_}
 use lib.ListN.{take}
-use Rattle.cipher.proofs.opening.differ.Given as given
+use Rattle.cipher.proofs.whole_box.differ.Given as given
 
 -- there is no difference exactly when the fronts are equal
 abbrev pub Inv-loop-i : given.InvT-loop-i
