@@ -1,14 +1,14 @@
 -- A piece ciphered or deciphered in a buffer: one byte more, and the whole piece.
-use mathlib.Core.Path.{_≡_, refl, sym, ap, _∙_}
+use mathlib.Core.Path.{_≡_, sym, ap, _∙_}
 use mathlib.Core.List.{List, [], _∷_, _++_}
-use Prim.Native.Nat.{ℕ, _+_, _%_, _≤_, _<_}
+use Prim.Native.Nat.{ℕ, _+_, _<_}
 use native.Mathlib.Omega.{arith}
 use lib.Bits.{bitXor}
 use lib.ListN.{length, getD, set, take, drop}
 use Rattle.std.proofs.shelf.Lists.{append-assoc, length-take-le, set-at, take-at, take-more, take-more-set, drop-more, drop-drop, drop-set-lt}
 use Rattle.engine.specs.Strings.{Bytes, Whole}
 use Rattle.sponge.specs.Blocks.{ciphertext}
-use Rattle.sponge.specs.Steps.{State, at, absorb-byte, absorb-piece}
+use Rattle.sponge.specs.Steps.{State, absorb-byte, absorb-piece}
 use Rattle.sponge.proofs.Absorbing.{absorbs, absorb-piece-append}
 use Rattle.cipher.specs.Ciphering.{keyed, cipher-piece, Ciphers}
 use Rattle.cipher.proofs.Ciphertexts.{cipher-piece-append, length-cipher-piece, pieces-join}

@@ -2,17 +2,16 @@
 use mathlib.Core.Path.{_≡_, refl, sym, ap, _∙_}
 use mathlib.Core.List.{List, [], _∷_, _++_}
 use mathlib.Core.Logic.{inl, inr}
-use Prim.Native.Nat.{ℕ, zero, suc, _+_, _-_, _*_, _/_, _%_, _≤_, _<_}
+use Prim.Native.Nat.{ℕ, zero, suc, _+_, _*_, _/_, _%_, _≤_, _<_}
 use native.Mathlib.Numerals.{add-one}
 use native.Mathlib.Omega.{arith}
-use lib.Bits.{bitXor}
-use lib.ListN.{length, getD, set, take, drop}
-use Rattle.std.proofs.shelf.Lists.{append-nil, append-assoc, length-drop, length-push, take-all, take-set, drop-set, drop-drop, drop-all, take-append-le, drop-append-le}
+use lib.ListN.{length, getD, take, drop}
+use Rattle.std.proofs.shelf.Lists.{append-nil, append-assoc, length-drop, length-push, take-all, take-set, drop-set, drop-drop, take-append-le, drop-append-le}
 use Rattle.std.proofs.shelf.Tests.{cases-eq}
 use Rattle.engine.specs.Strings.{Bytes, Whole, xored}
 use Rattle.sponge.specs.Blocks.{rate, mixed, after-full, cipher-full, ciphertext}
 use Rattle.sponge.specs.Steps.{State, at, absorb-byte, absorb-piece, absorbing}
-use Rattle.sponge.proofs.Absorbing.{after-full-append, after-full-more, last-block-push, by-blocks, by-blocks-at, by-blocks-push, absorbing-by-blocks}
+use Rattle.sponge.proofs.Absorbing.{last-block-push, by-blocks, by-blocks-at, by-blocks-push, absorbing-by-blocks}
 use Rattle.cipher.specs.Ciphering.{keyed, cipher-piece}
 use Rattle.cipher.proofs.Steady.{Steady, steady-byte}
 use Rattle.cipher.proofs.Xor.{xor-twice, xor-cancel, xor-byte}

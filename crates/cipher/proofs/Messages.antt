@@ -1,8 +1,8 @@
 -- A box and its message: each gives the other.
 use mathlib.Core.Path.{_≡_, refl, sym, ap, _∙_, subst}
-use mathlib.Core.List.{List, [], _∷_, _++_}
+use mathlib.Core.List.{List, _++_}
 use mathlib.Core.Logic.{inl, inr}
-use Prim.Native.Nat.{ℕ, _+_, _-_, _≤_, _<_}
+use Prim.Native.Nat.{ℕ, _+_}
 use native.Mathlib.Omega.{arith}
 use lib.ListN.{length, take, drop}
 use Rattle.std.specs.declared.result.Result.{Result}
@@ -10,7 +10,7 @@ use Rattle.std.proofs.shelf.Lists.{length-append, length-take, length-take-le, 
 use Rattle.std.proofs.shelf.Tests.{cases-lt}
 use Rattle.engine.specs.Strings.{Bytes, Whole}
 use Rattle.engine.specs.declared.refusal.Refusal.{Refusal}
-use Rattle.sponge.specs.Blocks.{rate, absorbed, ciphertext, boxed, sealed-box}
+use Rattle.sponge.specs.Blocks.{rate, absorbed, boxed, sealed-box}
 use Rattle.sponge.specs.Steps.{State, at, absorb-piece, absorbing}
 use Rattle.cipher.specs.Boxes.{Boxes}
 use Rattle.cipher.specs.Ciphering.{cipher-piece, Deciphers, Tags}

@@ -1,12 +1,12 @@
 -- A record sealed in one go is its box.
-use mathlib.Core.Path.{_≡_, refl, sym, ap, _∙_}
+use mathlib.Core.Path.{_≡_, sym, ap, _∙_}
 use mathlib.Core.List.{List, [], _++_}
 use Prim.Native.Nat.{ℕ}
 use lib.ListN.{length, take, drop}
 use Rattle.std.proofs.shelf.Lists.{drop-at}
-use Rattle.sponge.specs.Blocks.{rate, absorbed, ciphertext, boxed, sealed-box}
+use Rattle.sponge.specs.Blocks.{absorbed, ciphertext, sealed-box}
 use Rattle.sponge.specs.Calls.{Absorbs, Pads}
-use Rattle.sponge.specs.Steps.{State, at, absorb-piece, absorbing}
+use Rattle.sponge.specs.Steps.{State, at, absorb-piece}
 use Rattle.cipher.specs.Ciphering.{cipher-piece, Ciphers, Tags}
 use Rattle.cipher.proofs.Ciphertexts.{length-cipher-piece, ciphertext-none}
 

@@ -5,11 +5,11 @@ use mathlib.Core.Logic.{inl, inr}
 use Prim.Native.Nat.{ℕ, suc, _+_, _<_}
 use native.Mathlib.Omega.{arith}
 use lib.Bits.{bitXor}
-use lib.ListN.{length, getD, set}
+use lib.ListN.{length, getD}
 use Rattle.std.proofs.shelf.Lists.{length-set, getD-set-same, getD-set-other, getD-past}
 use Rattle.std.proofs.shelf.Tests.{cases-eq, cases-lt}
-use Rattle.engine.specs.Strings.{width, Bytes, Whole, xored}
-use Rattle.sponge.specs.Blocks.{rate, last-place}
+use Rattle.engine.specs.Strings.{Bytes, Whole, xored}
+use Rattle.sponge.specs.Blocks.{rate}
 use Rattle.sponge.specs.Steps.{State, at, advanced, absorb-byte, absorb-piece, padded}
 use Rattle.sponge.proofs.Advance.{advanced-end, advanced-within}
 use Rattle.cipher.proofs.Xor.{xor-byte}

@@ -11,7 +11,14 @@ use Rattle.cipher.specs.declared.book.IssuedNonce.{IssuedNonce}
 use Rattle.cipher.specs.declared.book.NonceBook.{NonceBook}
 use Rattle.cipher.specs.declared.nonce.BoxNonce.{BoxNonce}
 
--- a nonce's string
+-- how many bytes a nonce has, and how many of them are the bench's name
+abbrev pub nonce-length : ℕ
+nonce-length = 16
+
+abbrev pub name-length : ℕ
+name-length = 12
+
+-- the string of a nonce that a book issued, and of one that came with a box
 abbrev pub issued-bytes : IssuedNonce → List ℕ
 issued-bytes n = n .bytes
 
@@ -32,13 +39,13 @@ last-count = 4294967295
 
 -- a string made into a box nonce; one that is not 16 bytes is refused with 6
 abbrev pub BoxNonceMade : List ℕ → Result BoxNonce Refusal → Type 0
-BoxNonceMade s (Ok n) = (length s ≡ 16) × (box-nonce-bytes n ≡ s)
-BoxNonceMade s (Err e) = (length s ≡ 16 → ⊥) × (number e ≡ 6)
+BoxNonceMade s (Ok n) = (length s ≡ nonce-length) × (box-nonce-bytes n ≡ s)
+BoxNonceMade s (Err e) = (length s ≡ nonce-length → ⊥) × (number e ≡ 6)
 
 -- a book made of a name and a first count; a name that is not 12 bytes is refused with 4
 abbrev pub BookMade : List ℕ → ℕ → Result NonceBook Refusal → Type 0
-BookMade name count (Ok b) = (length name ≡ 12) × (b .name ≡ name) × (b .count ≡ count)
-BookMade name count (Err e) = (length name ≡ 12 → ⊥) × (number e ≡ 4)
+BookMade name count (Ok b) = (length name ≡ name-length) × (b .name ≡ name) × (b .count ≡ count)
+BookMade name count (Err e) = (length name ≡ name-length → ⊥) × (number e ≡ 4)
 
 -- a nonce issued by the book b, which is then the book b′
 pub record Issues (b : NonceBook) (n : IssuedNonce) (b′ : NonceBook) : Type 0 where

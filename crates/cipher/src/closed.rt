@@ -1,12 +1,11 @@
 // What a sealing and an opening share after close: a message's bytes, one after another, and the tag.
 ghost use mathlib.Core.Path.{_≡_};
-ghost use mathlib.Core.List.{_++_};
 ghost use Prim.Native.Nat.{_%_, _≤_};
-ghost use lib.ListN.{length, drop};
+ghost use lib.ListN.{length};
 ghost use Rattle.engine.specs.Strings.{zeros};
 ghost use Rattle.sponge.specs.Blocks.{rate};
-ghost use Rattle.sponge.specs.Steps.{at, standing, absorb-piece};
-ghost use Rattle.cipher.specs.Ciphering.{cipher-piece, Ciphers, Deciphers, Tags};
+ghost use Rattle.sponge.specs.Steps.{at, standing};
+ghost use Rattle.cipher.specs.Ciphering.{Ciphers, Deciphers, Tags};
 use crate::sealing::TAG_LEN;
 use engine::engine::Engine;
 use sponge::block::absorb_byte;

@@ -23,6 +23,7 @@ impl Key {
         }
     }
 
+    // The key's string.
     pub(crate) fn bytes(&self) -> &[u8; KEY_LEN]
         ensures { λ r. ⌜ now r ≡ key-bytes (now (self .entry)) ⌝ }
     {

@@ -26,7 +26,7 @@ pub fn seal_message<E: Engine>(
     buffer: &mut [u8],
     tag: &mut [u8; TAG_LEN],
 ) -> (E, Result<usize, Refusal>)
-    ensures seals { λ r. ⌜ Sealed rule (key-bytes (now (key .entry))) (issued-bytes nonce) (now (ad .entry)) (now (message .entry)) (now (buffer .entry)) (r .1) (now (buffer .exit)) (now (tag .entry)) (now (tag .exit)) ⌝ }
+    ensures seals { λ r. ⌜ Sealed rule (key-bytes (now (key .entry))) (issued-bytes nonce) (now (ad .entry)) (now (message .entry)) (now (buffer .entry)) (now (buffer .exit)) (now (tag .entry)) (now (tag .exit)) (r .1) ⌝ }
     ensures cleared { λ r. ⌜ meaning (r .0) ≡ zeros ⌝ }
 {
     let sealing = Sealing::start(engine, key, nonce).add(ad);

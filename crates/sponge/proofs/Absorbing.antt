@@ -28,7 +28,7 @@ mixed-push (y ∷ s) (x ∷ xs) b = ap (λ (t : List ℕ). bitXor y x ∷ t) (mi
 
 module _ (rule : List ℕ → List ℕ) where
   -- full blocks do not see what comes behind them
-  pub after-full-append : (n : ℕ) (s m t : List ℕ) → rate * n ≤ length m → after-full rule n s (m ++ t) ≡ after-full rule n s m
+  after-full-append : (n : ℕ) (s m t : List ℕ) → rate * n ≤ length m → after-full rule n s (m ++ t) ≡ after-full rule n s m
   unfolding after-full
   after-full-append zero s m t h = refl
   after-full-append (suc n) s m t h =
@@ -39,7 +39,7 @@ module _ (rule : List ℕ → List ℕ) where
       ∙ after-full-append n (rule (mixed s (take rate m))) (drop rate m) t (simp length-drop (omega arith))
 
   -- the last of several full blocks
-  pub after-full-more : (n : ℕ) (s m : List ℕ) → after-full rule (suc n) s m ≡ rule (mixed (after-full rule n s m) (take rate (drop (rate * n) m)))
+  after-full-more : (n : ℕ) (s m : List ℕ) → after-full rule (suc n) s m ≡ rule (mixed (after-full rule n s m) (take rate (drop (rate * n) m)))
   unfolding after-full
   after-full-more zero s m = refl
   after-full-more (suc n) s m =

@@ -1,11 +1,11 @@
-use mathlib.Core.Path.{_≡_, refl, sym, ap, _∙_}
+use mathlib.Core.Path.{_≡_, ap, _∙_}
 use mathlib.Core.List.{List, _++_}
-use Prim.Native.Nat.{ℕ, _+_, _%_, _<_}
+use Prim.Native.Nat.{ℕ, _%_, _<_}
 use native.Mathlib.Omega.{arith}
 use lib.ListN.{length, getD, take, drop}
 use Rattle.std.proofs.shelf.Lists.{getD-set-same, take-all}
 use Rattle.sponge.specs.Blocks.{rate}
-use Rattle.sponge.specs.Steps.{State, at, advanced, absorb-byte, absorb-piece}
+use Rattle.sponge.specs.Steps.{at, advanced, absorb-byte, absorb-piece}
 use Rattle.sponge.proofs.Advance.{advanced-read}
 use Rattle.cipher.specs.Ciphering.{keyed, cipher-piece}
 use Rattle.cipher.proofs.Buffers.{ciphered-next, absorbed-next, ciphers}

@@ -16,6 +16,11 @@ returns-in-Ok g c =
     let closed = closed-state (e .rule) key nonce ad _ _ _ (c .start .ensures .state) (c .add-sealing .ensures) (c .close .ensures) in
     let wrote = subst (λ (r : Result ℕ Refusal). Wrote (e .meaning) (e .rule) (c .close .result) m (c .args .buffer .now) (c .write-closed .result .0) r (c .write-closed .last .buffer)) (c .in-Ok .is) (c .write-closed .ensures) in
     record {
-      seals = (wrote .0, wrote .1, message-box (e .rule) key nonce ad m _ _ _ _ _ closed (wrote .2) (c .finish .ensures .tag), rest-stays (e .rule) m _ _ _ _ (wrote .2));
+      seals = record {
+        answer = wrote .0;
+        room = wrote .1;
+        box = message-box (e .rule) key nonce ad m _ _ _ _ _ closed (wrote .2) (c .finish .ensures .tag);
+        rest = rest-stays (e .rule) m _ _ _ _ (wrote .2);
+      };
       cleared = c .finish .ensures .cleared;
     }

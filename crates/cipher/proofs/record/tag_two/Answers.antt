@@ -1,4 +1,3 @@
-use mathlib.Core.List.{[]}
 use Rattle.cipher.proofs.Records.{empty-box}
 use Rattle.cipher.proofs.record.tag_two.Needs as need
 

@@ -7,7 +7,6 @@ use lib.ListN.{length, take, drop, replicate}
 use Rattle.std.proofs.shelf.Lists.{length-take-le, take-append-drop}
 use Rattle.engine.specs.Strings.{Bytes}
 use Rattle.sponge.specs.Blocks.{rate}
-use Rattle.sponge.specs.Steps.{standing}
 use Rattle.cipher.proofs.Messages.{bytes-take, opens, is-box, no-box}
 use Rattle.cipher.proofs.whole_box.open_box.Needs as need
 
