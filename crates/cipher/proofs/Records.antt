@@ -15,12 +15,14 @@ module _ (rule : List ℕ → List ℕ) where
   pub closed-state : (key nonce ad : List ℕ) (p q r : State) → p ≡ at (rule (nonce ++ key)) 0 → Absorbs rule p ad q → Pads rule q r → r ≡ at (absorbed rule (rule (nonce ++ key)) ad) 0
   closed-state key nonce ad p q r e a d = d .whole (rule (nonce ++ key)) ad (a .bytewise ∙ ap (λ (o : State). absorb-piece rule o ad) e)
 
-  pub empty-box : (key nonce ad tag : List ℕ) (p q r : State) → p ≡ at (rule (nonce ++ key)) 0 → Absorbs rule p ad q → Pads rule q r → Tags rule r tag → tag ≡ sealed-box rule key nonce ad []
+  -- the tag of an empty message is its box
+  pub empty-box : (key nonce ad tag : List ℕ) (p : State) → p ≡ at (absorbed rule (rule (nonce ++ key)) ad) 0 → Tags rule p tag → tag ≡ sealed-box rule key nonce ad []
   unfolding sealed-box
-  empty-box key nonce ad tag p q r e a d t =
+  empty-box key nonce ad tag p e t =
       let s = absorbed rule (rule (nonce ++ key)) ad in
-      ap (λ (x : List ℕ). x ++ tag) (sym (ciphertext-none rule s)) ∙ t .box s [] (closed-state key nonce ad p q r e a d)
+      ap (λ (x : List ℕ). x ++ tag) (sym (ciphertext-none rule s)) ∙ t .box s [] e
 
+  -- a message's ciphertext and tag are its box
   pub message-box : (key nonce ad m before after tag : List ℕ) (r o : State) → r ≡ at (absorbed rule (rule (nonce ++ key)) ad) 0 → Ciphers rule r m before after o → Tags rule o tag → take (length m) after ++ tag ≡ sealed-box rule key nonce ad m
   unfolding sealed-box
   message-box key nonce ad m before after tag r o e c t =

@@ -3,14 +3,13 @@ ghost use mathlib.Core.Path.{_≡_};
 ghost use mathlib.Core.List.{[], _++_};
 ghost use Rattle.engine.specs.Strings.{zeros};
 ghost use Rattle.sponge.specs.Blocks.{absorbed, sealed-box};
+ghost use Rattle.sponge.specs.Steps.{at, standing};
 ghost use Rattle.cipher.specs.Keys.{key-bytes};
-ghost use Rattle.cipher.specs.Nonces.{issued-bytes, box-nonce-bytes};
-ghost use Rattle.cipher.specs.Openings.{Opens};
+ghost use Rattle.cipher.specs.Nonces.{issued-bytes};
 ghost use Rattle.cipher.specs.Sealings.{Sealed};
 use crate::book::IssuedNonce;
 use crate::key::Key;
-use crate::nonce::BoxNonce;
-use crate::opening::Opening;
+use crate::sealing::ClosedSealing;
 use crate::sealing::Sealing;
 use crate::sealing::TAG_LEN;
 use engine::engine::Engine;
@@ -29,28 +28,11 @@ pub fn seal_message<E: Engine>(
     ensures seals { λ r. ⌜ Sealed rule (key-bytes (now (key .entry))) (issued-bytes nonce) (now (ad .entry)) (now (message .entry)) (now (buffer .entry)) (now (buffer .exit)) (now (tag .entry)) (now (tag .exit)) (r .1) ⌝ }
     ensures cleared { λ r. ⌜ meaning (r .0) ≡ zeros ⌝ }
 {
-    let sealing = Sealing::start(engine, key, nonce).add(ad);
-    let (closed, answer) = sealing.close().write(message, buffer);
+    let (closed, answer) = closed_sealing(engine, key, nonce, ad).write(message, buffer);
     match answer {
         Ok(n) => (closed.finish(tag), Ok(n)),
         Err(e) => (closed.release(), Err(e)),
     }
-}
-
-// Opens one box. The engine comes back cleared.
-pub fn open_message<E: Engine>(
-    engine: E,
-    key: &Key,
-    nonce: &BoxNonce,
-    ad: &[u8],
-    sealed: &[u8],
-    buffer: &mut [u8],
-) -> (E, Result<usize, Refusal>)
-    ensures opens { λ r. ⌜ Opens rule (absorbed rule (rule (box-nonce-bytes (now (nonce .entry)) ++ key-bytes (now (key .entry)))) (now (ad .entry))) (now (sealed .entry)) (now (buffer .entry)) (now (buffer .exit)) (r .1) ⌝ }
-    ensures cleared { λ r. ⌜ meaning (r .0) ≡ zeros ⌝ }
-{
-    let opening = Opening::start(engine, key, nonce).add(ad);
-    opening.close().open(sealed, buffer)
 }
 
 // Tags two strings of associated data, each with an empty message and a nonce of its own, on one engine.
@@ -68,8 +50,32 @@ pub fn tag_two<E: Engine>(
     ensures second { λ _. ⌜ now («second_tag» .exit) ≡ sealed-box rule (key-bytes (now (key .entry))) (issued-bytes «second_nonce») (now (second .entry)) [] ⌝ }
     ensures cleared { λ r. ⌜ meaning r ≡ zeros ⌝ }
 {
-    let sealing = Sealing::start(engine, key, first_nonce).add(first);
-    let engine = sealing.close().finish(first_tag);
-    let sealing = Sealing::start(engine, key, second_nonce).add(second);
-    sealing.close().finish(second_tag)
+    let engine = tag_data(engine, key, first_nonce, first, first_tag);
+    tag_data(engine, key, second_nonce, second, second_tag)
+}
+
+// The tag of associated data with an empty message.
+fn tag_data<E: Engine>(
+    engine: E,
+    key: &Key,
+    nonce: IssuedNonce,
+    ad: &[u8],
+    tag: &mut [u8; TAG_LEN],
+) -> E
+    ensures tag { λ _. ⌜ now (tag .exit) ≡ sealed-box rule (key-bytes (now (key .entry))) (issued-bytes nonce) (now (ad .entry)) [] ⌝ }
+    ensures cleared { λ r. ⌜ meaning r ≡ zeros ⌝ }
+{
+    closed_sealing(engine, key, nonce, ad).finish(tag)
+}
+
+// A sealing whose associated data came in one piece.
+fn closed_sealing<E: Engine>(
+    engine: E,
+    key: &Key,
+    nonce: IssuedNonce,
+    ad: &[u8],
+) -> ClosedSealing<E>
+    ensures { λ r. ⌜ standing meaning (r .closed .sponge) ≡ at (absorbed rule (rule (issued-bytes nonce ++ key-bytes (now (key .entry)))) (now (ad .entry))) 0 ⌝ }
+{
+    Sealing::start(engine, key, nonce).add(ad).close()
 }

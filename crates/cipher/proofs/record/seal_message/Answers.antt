@@ -3,7 +3,7 @@ use Prim.Native.Nat.{ℕ}
 use Rattle.std.specs.declared.result.Result.{Result}
 use Rattle.engine.specs.declared.refusal.Refusal.{Refusal}
 use Rattle.cipher.specs.Sealings.{Wrote}
-use Rattle.cipher.proofs.Records.{closed-state, message-box, rest-stays}
+use Rattle.cipher.proofs.Records.{message-box, rest-stays}
 use Rattle.cipher.proofs.record.seal_message.Needs as need
 
 pub returns-in-Ok : need.returns-in-Ok
@@ -13,13 +13,12 @@ returns-in-Ok g c =
     let nonce = c .args .nonce .bytes in
     let ad = c .args .ad .now in
     let m = c .args .message .now in
-    let closed = closed-state (e .rule) key nonce ad _ _ _ (c .start .ensures .state) (c .add-sealing .ensures) (c .close .ensures) in
-    let wrote = subst (λ (r : Result ℕ Refusal). Wrote (e .meaning) (e .rule) (c .close .result) m (c .args .buffer .now) (c .write-closed .result .0) r (c .write-closed .last .buffer)) (c .in-Ok .is) (c .write-closed .ensures) in
+    let wrote = subst (λ (r : Result ℕ Refusal). Wrote (e .meaning) (e .rule) (c .closed-sealing .result) m (c .args .buffer .now) (c .write-closed .result .0) r (c .write-closed .last .buffer)) (c .in-Ok .is) (c .write-closed .ensures) in
     record {
       seals = record {
         answer = wrote .0;
         room = wrote .1;
-        box = message-box (e .rule) key nonce ad m _ _ _ _ _ closed (wrote .2) (c .finish .ensures .tag);
+        box = message-box (e .rule) key nonce ad m _ _ _ _ _ (c .closed-sealing .ensures) (wrote .2) (c .finish .ensures .tag);
         rest = rest-stays (e .rule) m _ _ _ _ (wrote .2);
       };
       cleared = c .finish .ensures .cleared;
