@@ -14,12 +14,12 @@ use Rattle.sponge.specs.Steps.{State, at, advanced, absorb-byte, absorb-piece,
 use Rattle.sponge.specs.Calls.{Absorbs, Pads}
 use Rattle.sponge.proofs.Advance.{advanced-end, advanced-within, advanced-read}
 
-mixed-none : (s : List ℕ) → mixed s [] ≡ s
+pub mixed-none : (s : List ℕ) → mixed s [] ≡ s
 unfolding mixed
 mixed-none s = refl
 
 -- one byte more of a block
-mixed-push : (s x : List ℕ) (b : ℕ) → mixed s (x ++ b ∷ []) ≡ xored (mixed s x) (length x) b
+pub mixed-push : (s x : List ℕ) (b : ℕ) → mixed s (x ++ b ∷ []) ≡ xored (mixed s x) (length x) b
 unfolding mixed
 mixed-push [] [] b = refl
 mixed-push [] (x ∷ xs) b = refl
@@ -52,26 +52,31 @@ module _ (rule : List ℕ → List ℕ) where
   unfoldable pub by-blocks : List ℕ → List ℕ → State
   by-blocks s m = let n = length m / rate in at (mixed (after-full rule n s m) (drop (rate * n) m)) (length m % rate)
 
-  by-blocks-at : (s m : List ℕ) (q r : ℕ) → length m / rate ≡ q → length m % rate ≡ r → by-blocks s m ≡ at (mixed (after-full rule q s m) (drop (rate * q) m)) r
+  pub by-blocks-at : (s m : List ℕ) (q r : ℕ) → length m / rate ≡ q → length m % rate ≡ r → by-blocks s m ≡ at (mixed (after-full rule q s m) (drop (rate * q) m)) r
   unfolding by-blocks
   by-blocks-at s m q r e f =
       ap (λ (n : ℕ). at (mixed (after-full rule n s m) (drop (rate * n) m)) (length m % rate)) e
       ∙ ap (λ (i : ℕ). at (mixed (after-full rule q s m) (drop (rate * q) m)) i) f
 
+  -- one byte more of the last block
+  pub last-block-push : (s m : List ℕ) (b q : ℕ) → length m / rate ≡ q → xored (mixed (after-full rule q s m) (drop (rate * q) m)) (length m % rate) b ≡ mixed (after-full rule q s (m ++ b ∷ [])) (drop (rate * q) (m ++ b ∷ []))
+  last-block-push s m b q e =
+      let m′ = m ++ b ∷ [] in
+      let left : length (drop (rate * q) m) ≡ length m % rate = length-drop (rate * q) m ∙ omega arith in
+      let block : drop (rate * q) m′ ≡ drop (rate * q) m ++ b ∷ [] = drop-append-le (rate * q) m (b ∷ []) (omega arith) in
+      ap (λ (i : ℕ). xored (mixed (after-full rule q s m) (drop (rate * q) m)) i b) (sym left)
+      ∙ sym (mixed-push (after-full rule q s m) (drop (rate * q) m) b)
+      ∙ ap (λ (x : List ℕ). mixed (after-full rule q s m) x) (sym block)
+      ∙ ap (λ (x : List ℕ). mixed x (drop (rate * q) m′)) (sym (after-full-append q s m (b ∷ []) (omega arith)))
+
   -- one byte more of a string
-  by-blocks-push : (s m : List ℕ) (b : ℕ) → absorb-byte rule (by-blocks s m) b ≡ by-blocks s (m ++ b ∷ [])
+  pub by-blocks-push : (s m : List ℕ) (b : ℕ) → absorb-byte rule (by-blocks s m) b ≡ by-blocks s (m ++ b ∷ [])
   by-blocks-push s m b =
       let q = length m / rate in
       let r = length m % rate in
       let m′ = m ++ b ∷ [] in
       let long : length m′ ≡ length m + 1 = length-push m b in
-      let left : length (drop (rate * q) m) ≡ r = length-drop (rate * q) m ∙ omega arith in
-      let block : drop (rate * q) m′ ≡ drop (rate * q) m ++ b ∷ [] = drop-append-le (rate * q) m (b ∷ []) (omega arith) in
-      let filled : xored (mixed (after-full rule q s m) (drop (rate * q) m)) r b ≡ mixed (after-full rule q s m′) (drop (rate * q) m′) =
-      ap (λ (i : ℕ). xored (mixed (after-full rule q s m) (drop (rate * q) m)) i b) (sym left)
-      ∙ sym (mixed-push (after-full rule q s m) (drop (rate * q) m) b)
-      ∙ ap (λ (x : List ℕ). mixed (after-full rule q s m) x) (sym block)
-      ∙ ap (λ (x : List ℕ). mixed x (drop (rate * q) m′)) (sym (after-full-append q s m (b ∷ []) (omega arith))) in
+      let filled = last-block-push s m b q refl in
       let taken : absorb-byte rule (by-blocks s m) b ≡ advanced rule (at (mixed (after-full rule q s m′) (drop (rate * q) m′)) r) =
       ap (λ (p : State). absorb-byte rule p b) (by-blocks-at s m q r refl refl)
       ∙ ap (λ (x : List ℕ). advanced rule (at x r)) filled in

@@ -49,11 +49,13 @@ module _ (rule : List ℕ → List ℕ) where
       let b = drop (rate * n) m in
       cipher-full n s m ++ take (length b) (mixed (after-full n s m) b)
 
-  -- ciphertext and tag, in one go; the tag is the first block that the end gives
+  -- the box of a message, from the state that the associated data left: ciphertext, then tag
+  unfoldable pub boxed : List ℕ → List ℕ → List ℕ
+  boxed s m = ciphertext s m ++ take rate (absorbed s m)
+
+  -- the box of associated data and a message, under a key and a nonce
   unfoldable pub sealed-box : List ℕ → List ℕ → List ℕ → List ℕ → List ℕ
-  sealed-box key nonce ad m =
-      let s = absorbed (rule (nonce ++ key)) ad in
-      ciphertext s m ++ take rate (absorbed s m)
+  sealed-box key nonce ad m = boxed (absorbed (rule (nonce ++ key)) ad) m
 
   -- n blocks squeezed out: the first bytes of a state, then those after one more rule, and so on
   unfoldable pub squeezed : ℕ → List ℕ → List ℕ
