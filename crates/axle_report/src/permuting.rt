@@ -12,8 +12,18 @@ use std::io;
 
 // The published result, row by row.
 const RESULT: [u32; 12] = [
-    0xba11c85a, 0x91bad119, 0x380ce880, 0xd24c2c68, 0x3eceffea, 0x277a921c, 0x4f73a0bd, 0xda5a9cd8,
-    0x84b673f0, 0x34e52ff7, 0x9e2bef49, 0xf41bb8d6,
+    0xba11c85a,
+    0x91bad119,
+    0x380ce880,
+    0xd24c2c68,
+    0x3eceffea,
+    0x277a921c,
+    0x4f73a0bd,
+    0xda5a9cd8,
+    0x84b673f0,
+    0x34e52ff7,
+    0x9e2bef49,
+    0xf41bb8d6,
 ];
 
 // Word i of the published test state.
@@ -81,7 +91,11 @@ fn show_shares(rt: &LibcRuntime, when: &str, engine: &ThreeShareEngine) -> io::R
 }
 
 fn verdict(agrees: bool) -> &'static str {
-    if agrees { "the published result" } else { "NOT the published result" }
+    if agrees {
+        "the published result"
+    } else {
+        "NOT the published result"
+    }
 }
 
 pub fn report(rt: &LibcRuntime) -> io::Result<()> {
@@ -91,7 +105,10 @@ pub fn report(rt: &LibcRuntime) -> io::Result<()> {
     }
     let string = string_of(&words);
     let result = string_of(&RESULT);
-    println!(rt, "The published test state of the Gimli permutation, on three engines.")?;
+    println!(
+        rt,
+        "The published test state of the Gimli permutation, on three engines."
+    )?;
     let mut plain = PlainEngine::new();
     let said = verdict(agrees(&mut plain, &string, &result));
     println!(rt, "plain engine: 24 rounds give {said}.")?;
@@ -105,7 +122,10 @@ fn three_shares(rt: &LibcRuntime, string: &[u8], result: &[u8]) -> io::Result<()
     let Ok(mut engine) = ThreeShareEngine::new(&[0x5a; WIDTH], &[0xc3; WIDTH]) else {
         return println!(rt, "a mask is not 48 bytes");
     };
-    println!(rt, "three-share engine: made from two masks; the test state is xored into share 0.")?;
+    println!(
+        rt,
+        "three-share engine: made from two masks; the test state is xored into share 0."
+    )?;
     load(&mut engine, string);
     show_shares(rt, "before", &engine)?;
     engine.permute();

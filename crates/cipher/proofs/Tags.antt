@@ -1,7 +1,7 @@
 -- The tag of a message, byte by byte and by blocks.
 use mathlib.Core.Path.{_≡_, refl, sym, ap, _∙_}
 use mathlib.Core.List.{List, _++_}
-use Prim.Native.Nat.{ℕ, _+_}
+use Prim.Native.Nat.{ℕ}
 use native.Mathlib.Omega.{arith}
 use lib.ListN.{length, take}
 use Rattle.std.proofs.shelf.Lists.{length-take-le, take-at}
@@ -13,12 +13,12 @@ use Rattle.cipher.specs.Ciphering.{Tags}
 
 module _ (rule : List ℕ → List ℕ) where
   -- the first bytes that a state gives are its own
-  pub first-block : (s out : List ℕ) → Whole s → length out ≡ rate → stream rule s (0 + length out) ≡ stream rule s 0 ++ out → out ≡ take rate s
-  unfolding stream squeezed
+  pub first-block : (s out : List ℕ) → Whole s → length out ≡ rate → out ≡ stream rule s (length out) → out ≡ take rate s
+  unfolding squeezed
   first-block s out w e h =
       let long = w .long in
-      sym h
-      ∙ ap (λ (n : ℕ). stream rule s (0 + n)) e
+      h
+      ∙ ap (stream rule s) e
       ∙ take-at (take rate s) _ rate (length-take-le rate s (omega arith))
 
   pub padded-absorbed : (s m : List ℕ) (p : State) → p ≡ absorbing rule s m → padded rule p .string ≡ absorbed rule s m

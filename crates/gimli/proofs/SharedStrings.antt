@@ -64,21 +64,21 @@ module _ (s t : Sharing) (place b : ℕ) (fits : place < 48) (zeroth : string (s
   share-byte p h (inl e) =
       let inside : (m : State) → place < length (string m) = λ m. rw (string-long m) fits in
       let at-zeroth : byte-at (share t 0) place ≡ bitXor (byte-at (share s 0) place) b =
-          sym (string-at (share t 0) place fits) ∙ ap (λ (m : List ℕ). getD m place 0) zeroth
-          ∙ getD-set-same (string (share s 0)) place _ 0 (inside (share s 0)) ∙ ap (λ (x : ℕ). bitXor x b) (string-at (share s 0) place fits) in
+      sym (string-at (share t 0) place fits) ∙ ap (λ (m : List ℕ). getD m place 0) zeroth
+      ∙ getD-set-same (string (share s 0)) place _ 0 (inside (share s 0)) ∙ ap (λ (x : ℕ). bitXor x b) (string-at (share s 0) place fits) in
       rw e
-        (getD-set-same (string (joined s)) place _ 0 (inside (joined s))
-        ∙ ap (λ (x : ℕ). bitXor x b) (string-at (joined s) place fits ∙ joined-byte s place)
-        ∙ into-zeroth b (byte-at (share s 0) place) (byte-at (share s 1) place) (byte-at (share s 2) place)
-        ∙ (λ i. bitXor (bitXor (sym at-zeroth i) (byte-at (sym first i) place)) (byte-at (sym second i) place))
-        ∙ sym (joined-byte t place))
+      (getD-set-same (string (joined s)) place _ 0 (inside (joined s))
+      ∙ ap (λ (x : ℕ). bitXor x b) (string-at (joined s) place fits ∙ joined-byte s place)
+      ∙ into-zeroth b (byte-at (share s 0) place) (byte-at (share s 1) place) (byte-at (share s 2) place)
+      ∙ (λ i. bitXor (bitXor (sym at-zeroth i) (byte-at (sym first i) place)) (byte-at (sym second i) place))
+      ∙ sym (joined-byte t place))
     where
       into-zeroth : (w x y z : ℕ) → bitXor (bitXor (bitXor x y) z) w ≡ bitXor (bitXor (bitXor x w) y) z
       into-zeroth w x y z = simp (xor-assoc, xor-comm, xor-left-comm)
   share-byte p h (inr ne) =
       let at-zeroth : byte-at (share t 0) p ≡ byte-at (share s 0) p =
-          sym (string-at (share t 0) p h) ∙ ap (λ (m : List ℕ). getD m p 0) zeroth
-          ∙ getD-set-other (string (share s 0)) place p _ 0 ne ∙ string-at (share s 0) p h in
+      sym (string-at (share t 0) p h) ∙ ap (λ (m : List ℕ). getD m p 0) zeroth
+      ∙ getD-set-other (string (share s 0)) place p _ 0 ne ∙ string-at (share s 0) p h in
       getD-set-other (string (joined s)) place p _ 0 ne ∙ string-at (joined s) p h ∙ joined-byte s p
       ∙ (λ i. bitXor (bitXor (sym at-zeroth i) (byte-at (sym first i) p)) (byte-at (sym second i) p))
       ∙ sym (joined-byte t p)
@@ -86,7 +86,7 @@ module _ (s t : Sharing) (place b : ℕ) (fits : place < 48) (zeroth : string (s
   share-xored : string (joined t) ≡ xored (string (joined s)) place b
   share-xored =
       sym (same-string (xored (string (joined s)) place b) (joined t)
-        (length-set (string (joined s)) place _ ∙ string-long (joined s)) (λ p h. share-byte p h (cases-eq p place)))
+      (length-set (string (joined s)) place _ ∙ string-long (joined s)) (λ p h. share-byte p h (cases-eq p place)))
 
 -- what xor_byte promises of the shares gives what it promises of the meaning
 pub meaning-xored : (s t : Sharing) (place b : ℕ) (r : Result Unit Refusal) → ShareXored s place b r t → Xored (string (joined s)) place b r (string (joined t))

@@ -54,10 +54,10 @@ pub round-shares : (r : ℕ) (s : Sharing) → joined (shared-round r s) ≡ rou
 unfolding shared-round round
 round-shares r s =
     choice (eqb (r % 4) 0) (eqb (r % 4) 2) _ _ _
-      (constant-shares r (shared-small-swap (shared-columns s))
-        ∙ ap (add-constant r) (small-swap-shares (shared-columns s) ∙ ap small-swap (columns-shares s)))
-      (big-swap-shares (shared-columns s) ∙ ap big-swap (columns-shares s))
-      (columns-shares s)
+    (constant-shares r (shared-small-swap (shared-columns s))
+    ∙ ap (add-constant r) (small-swap-shares (shared-columns s) ∙ ap small-swap (columns-shares s)))
+    (big-swap-shares (shared-columns s) ∙ ap big-swap (columns-shares s))
+    (columns-shares s)
 
 rounds-shares : (n : ℕ) (s : Sharing) → joined (first-shared-rounds n s) ≡ first-rounds n (joined s)
 unfolding first-shared-rounds first-rounds

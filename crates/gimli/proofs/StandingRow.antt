@@ -31,14 +31,14 @@ written k t p0 p1 p2 p3 x0 x1 x2 x3 h long e0 e1 e2 e3 =
     ∙ ap (λ (p : ℕ). read-at k (set (set (set (set t k x0) (bitXor 1 k) x1) p x2) p3 x3)) e2
     ∙ ap (λ (p : ℕ). read-at k (set (set (set (set t k x0) (bitXor 1 k) x1) (bitXor 2 k) x2) p x3)) e3
     ∙ for-rows (λ k t. read-at k (set (set (set (set t k x0) (bitXor 1 k) x1) (bitXor 2 k) x2) (bitXor 3 k) x3) ≡ x0 ∷ x1 ∷ x2 ∷ x3 ∷ [])
-        (λ a b c d. (refl, refl, refl, refl)) k t h long
+    (λ a b c d. (refl, refl, refl, refl)) k t h long
 
 -- a word xored into the top word of column 0
 pub first-xored : (k : ℕ) (t : List ℕ) (p w : ℕ) → k < 4 → length t ≡ 4 → p ≡ k → read-at k (set t p (bitXor (getD t p 0) w)) ≡ bitXor (getD t k 0) w ∷ getD t (bitXor 1 k) 0 ∷ getD t (bitXor 2 k) 0 ∷ getD t (bitXor 3 k) 0 ∷ []
 first-xored k t p w h long e =
     ap (λ (p : ℕ). read-at k (set t p (bitXor (getD t p 0) w))) e
     ∙ for-rows (λ k t. read-at k (set t k (bitXor (getD t k 0) w)) ≡ bitXor (getD t k 0) w ∷ getD t (bitXor 1 k) 0 ∷ getD t (bitXor 2 k) 0 ∷ getD t (bitXor 3 k) 0 ∷ [])
-        (λ a b c d. (refl, refl, refl, refl)) k t h long
+    (λ a b c d. (refl, refl, refl, refl)) k t h long
 
 -- k xor 1 stands for the small swap, k xor 2 for the big one
 pub small-swapped : (k : ℕ) (t : List ℕ) → k < 4 → read-at (bitXor k 1) t ≡ getD t (bitXor 1 k) 0 ∷ getD t k 0 ∷ getD t (bitXor 3 k) 0 ∷ getD t (bitXor 2 k) 0 ∷ []

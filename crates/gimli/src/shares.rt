@@ -2,7 +2,9 @@
 ghost use mathlib.Core.Path.{_≡_};
 ghost use Rattle.gimli.specs.Permutation.{permutation};
 ghost use Rattle.gimli.specs.Shares.{share-sp-box, share-columns, shared-columns, shared-small-swap, shared-big-swap, shared-constant, shared-permutation, WholeShares, joined};
-use crate::rounds::{add_constant, big_swap, small_swap};
+use crate::rounds::add_constant;
+use crate::rounds::big_swap;
+use crate::rounds::small_swap;
 use crate::sp_box::Column;
 use crate::state::State;
 
@@ -30,10 +32,22 @@ fn share_sp_box(a: Column, b: Column) -> Column
 fn share_columns(a: State, b: State) -> State
     ensures { λ r. ⌜ r ≡ share-columns a b ⌝ }
 {
-    let (x0, y0, z0) = share_sp_box((a.top[0], a.middle[0], a.bottom[0]), (b.top[0], b.middle[0], b.bottom[0]));
-    let (x1, y1, z1) = share_sp_box((a.top[1], a.middle[1], a.bottom[1]), (b.top[1], b.middle[1], b.bottom[1]));
-    let (x2, y2, z2) = share_sp_box((a.top[2], a.middle[2], a.bottom[2]), (b.top[2], b.middle[2], b.bottom[2]));
-    let (x3, y3, z3) = share_sp_box((a.top[3], a.middle[3], a.bottom[3]), (b.top[3], b.middle[3], b.bottom[3]));
+    let (x0, y0, z0) = share_sp_box(
+        (a.top[0], a.middle[0], a.bottom[0]),
+        (b.top[0], b.middle[0], b.bottom[0]),
+    );
+    let (x1, y1, z1) = share_sp_box(
+        (a.top[1], a.middle[1], a.bottom[1]),
+        (b.top[1], b.middle[1], b.bottom[1]),
+    );
+    let (x2, y2, z2) = share_sp_box(
+        (a.top[2], a.middle[2], a.bottom[2]),
+        (b.top[2], b.middle[2], b.bottom[2]),
+    );
+    let (x3, y3, z3) = share_sp_box(
+        (a.top[3], a.middle[3], a.bottom[3]),
+        (b.top[3], b.middle[3], b.bottom[3]),
+    );
     State {
         top: [x0, x1, x2, x3],
         middle: [y0, y1, y2, y3],
@@ -46,7 +60,11 @@ fn columns(s: Shares) -> Shares
 {
     let [s0, s1, s2] = s.share;
     Shares {
-        share: [share_columns(s1, s2), share_columns(s2, s0), share_columns(s0, s1)],
+        share: [
+            share_columns(s1, s2),
+            share_columns(s2, s0),
+            share_columns(s0, s1),
+        ],
     }
 }
 

@@ -37,7 +37,11 @@ fn columns(s: Standing) -> Standing
     ensures long { λ r. ⌜ length (r .stored .top) ≡ 4 ⌝ }
 {
     let Standing { stored, k } = s;
-    let State { mut top, middle, bottom } = stored;
+    let State {
+        mut top,
+        middle,
+        bottom,
+    } = stored;
     let p0 = place(0, k);
     let p1 = place(1, k);
     let p2 = place(2, k);
@@ -65,10 +69,18 @@ fn add_constant(s: Standing, number: u32) -> Standing
     ensures k { λ r. ⌜ r .k ≡ s .k ⌝ }
 {
     let Standing { stored, k } = s;
-    let State { mut top, middle, bottom } = stored;
+    let State {
+        mut top,
+        middle,
+        bottom,
+    } = stored;
     let p = place(0, k);
     top[p] ^= CONSTANT ^ number;
-    let stored = State { top, middle, bottom };
+    let stored = State {
+        top,
+        middle,
+        bottom,
+    };
     Standing { stored, k }
 }
 

@@ -23,9 +23,9 @@ returns c =
     let e3 : c .sp-box-x3 .result ≡ sp-box (column (meant s) 3) = c .sp-box-x3 .ensures ∙ ap (at 3) (c .place-p3 .ensures .value) in
     record {
       meant =
-        same-state
+          same-state
           (written (s .k) t _ _ _ _ _ _ _ _ (c .pre) long (c .place-p0 .ensures .value) (c .place-p1 .ensures .value) (c .place-p2 .ensures .value) (c .place-p3 .ensures .value)
-            ∙ (λ i. e0 i .0 ∷ e1 i .0 ∷ e2 i .0 ∷ e3 i .0 ∷ []))
+          ∙ (λ i. e0 i .0 ∷ e1 i .0 ∷ e2 i .0 ∷ e3 i .0 ∷ []))
           (λ i. e0 i .1 ∷ e1 i .1 ∷ e2 i .1 ∷ e3 i .1 ∷ [])
           (λ i. e0 i .2 ∷ e1 i .2 ∷ e2 i .2 ∷ e3 i .2 ∷ []);
       k = refl;

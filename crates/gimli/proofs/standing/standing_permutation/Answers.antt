@@ -20,11 +20,12 @@ pub loop-done-again : need.loop-done-again
 unfolding first-rounds
 loop-done-again c =
     let number = 24 - c .loop-done .done in
-    let made = c .round-standing .ensures in
-    (rw (add-one (c .loop-done .done)) (made .meant ∙ ap (round number) (c .loop-done .inv .0)),
-     rw (add-one (c .loop-done .done)) (made .k .0 ∙ ap (next-k number) (c .loop-done .inv .1)),
-     made .k .1,
-     search needs)
+    let made = c .round-standing .ensures in (
+      rw (add-one (c .loop-done .done)) (made .meant ∙ ap (round number) (c .loop-done .inv .0)),
+      rw (add-one (c .loop-done .done)) (made .k .0 ∙ ap (next-k number) (c .loop-done .inv .1)),
+      made .k .1,
+      search needs,
+    )
 
 pub returns : need.returns
 unfolding permutation

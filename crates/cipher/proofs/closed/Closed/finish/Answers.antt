@@ -17,6 +17,6 @@ returns g c =
     let whole : Whole s = subst Whole (ap (λ (q : State). q .string) ended) (g .E·Engine·met .whole (c .pad .result .engine)) in
     let long : length out ≡ rate = omega arith in
     record {
-      tag = tags (e .rule) p out (first-block (e .rule) s out whole long (c .squeeze .ensures .whole s 0 whole ended));
+      tag = tags (e .rule) p out (first-block (e .rule) s out whole long (c .squeeze .ensures .first s whole ended));
       cleared = c .into-engine .ensures;
     }

@@ -13,5 +13,5 @@ returns c =
     let before = c .args .self .now .shares .share in
     let long : length before ≡ 3 = search needs in
     let each : set before 0 (c .xor .result) ≡ xor-states (share before 1) (share before 2) ∷ share before 1 ∷ share before 2 ∷ [] =
-        zeroth-replaced before (c .xor .result) long ∙ ap (λ (s : State). s ∷ share before 1 ∷ share before 2 ∷ []) (c .xor .ensures) in
+    zeroth-replaced before (c .xor .result) long ∙ ap (λ (s : State). s ∷ share before 1 ∷ share before 2 ∷ []) (c .xor .ensures) in
     record { shares = each; meaning = ap (λ (s : Sharing). string (joined s)) each ∙ cleared (share before 1) (share before 2) }

@@ -14,6 +14,6 @@ returns c =
     record {
       shares = made .each ∙ ap (λ (s : Shares). shared-permutation (s .share)) same;
       meaning =
-        permuted-string (joined before) (joined (c .permutation-self .result .share)) (joined-whole before (c .known .ensures .whole))
+          permuted-string (joined before) (joined (c .permutation-self .result .share)) (joined-whole before (c .known .ensures .whole))
           (made .joined ∙ ap (λ (s : Shares). permutation (joined (s .share))) same);
     }

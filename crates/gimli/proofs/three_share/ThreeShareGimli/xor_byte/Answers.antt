@@ -12,5 +12,5 @@ returns c =
     let long : length before ≡ 3 = search needs in
     let after = set before 0 (c .xor-byte .last .self) in
     let each : ShareXored before (c .args .place) (c .args .b) (c .xor-byte .result) after =
-        lent-xored before (c .xor-byte .last .self) (c .args .place) (c .args .b) (c .xor-byte .result) long (c .xor-byte .ensures) in
+    lent-xored before (c .xor-byte .last .self) (c .args .place) (c .args .b) (c .xor-byte .result) long (c .xor-byte .ensures) in
     record { shares = each; meaning = meaning-xored before after (c .args .place) (c .args .b) (c .xor-byte .result) each }

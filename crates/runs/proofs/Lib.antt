@@ -1,0 +1,6 @@
+mod Histories
+mod Lawful
+mod Moves
+mod Progress
+mod Spending
+mod Stepping

@@ -1,0 +1,9 @@
+pub mod Allowed
+pub mod Asks
+pub mod History
+pub mod Laws
+pub mod Lists
+pub mod Runs
+pub mod Scripts
+pub mod Stages
+pub mod Traces

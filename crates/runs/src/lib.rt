@@ -1,0 +1,6 @@
+// Lists of calls, run on one nonce book and one engine, and the law that every run keeps.
+pub mod list;
+pub mod run;
+pub mod script;
+mod stage;
+mod steps;
