@@ -4,7 +4,7 @@ use cipher::key::Key;
 use cipher::nonce::BoxNonce;
 use cipher::nonce::NONCE_LEN;
 use engine::refusal::Refusal;
-use sponge::block::RATE as TAG_LEN;
+use cipher::sealing::TAG_LEN;
 
 #[derive(Drop)]
 pub enum Call<L> {

@@ -17,7 +17,7 @@ use digest::drawing::Drawing;
 use digest::feeding::Feeding;
 use engine::engine::Engine;
 use engine::refusal::Refusal;
-use sponge::block::RATE as TAG_LEN;
+use cipher::sealing::TAG_LEN;
 
 fn length_or_refusal(r: Result<usize, Refusal>) -> Reply
     ensures { λ y. ⌜ y ≡ reply-to r ⌝ }
