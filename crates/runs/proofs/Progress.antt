@@ -542,13 +542,13 @@ module _ {E : Type 0} (meaning : E → List ℕ) (rule : List ℕ → List ℕ) 
     from-spends j (Some n) mid is-free (earlier, issue, slot, same) = inr (n, refl, is-free, earlier, (issue, slot), same)
 
     middle : (p : Point) (j : ℕ) (nonce : Option IssuedNonce) (mid : List (Step L)) → point-of s ≡ p → Readied p (takes j) ys i d nonce mid → Middle j nonce mid
-    middle free j nonce mid p r = from-spends j nonce mid p r
-    middle sealing-adds j nonce mid p r = inl (r .0, r .1, λ f. no cc)
-    middle sealing-writes j nonce mid p r = inl (r .0, r .1, λ f. no cc)
-    middle opening-adds j nonce mid p r = inl (r .0, r .1, λ f. no cc)
-    middle opening-opens j nonce mid p r = inl (r .0, r .1, λ f. no cc)
-    middle digest-feeds j nonce mid p r = inl (r .0, r .1, λ f. no cc)
-    middle digest-draws j nonce mid p r = inl (r .0, r .1, λ f. no cc)
+    middle free j held mid p r = from-spends j held mid p r
+    middle sealing-adds j held mid p r = inl (r .0, r .1, λ f. no cc)
+    middle sealing-writes j held mid p r = inl (r .0, r .1, λ f. no cc)
+    middle opening-adds j held mid p r = inl (r .0, r .1, λ f. no cc)
+    middle opening-opens j held mid p r = inl (r .0, r .1, λ f. no cc)
+    middle digest-feeds j held mid p r = inl (r .0, r .1, λ f. no cc)
+    middle digest-draws j held mid p r = inl (r .0, r .1, λ f. no cc)
 
     not-free-none : (p : Point) → (p ≡ free → ⊥) → only free sealing-adds p ≡ None
     not-free-none free ne = absurd (ne refl)

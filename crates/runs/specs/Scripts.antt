@@ -2,6 +2,7 @@
 use mathlib.Core.List.{List, [], _∷_}
 use Prim.Native.Nat.{ℕ, zero, suc}
 use Rattle.std.specs.Of.Vec.{vec-items}
+use Rattle.std.specs.declared.option.Option.the-variants.{None}
 use Rattle.std.specs.declared.result.Result.{Result}
 use Rattle.std.specs.declared.result.Result.the-variants.{Ok, Err}
 use Rattle.engine.specs.Refusals.{number}
@@ -14,6 +15,10 @@ use Rattle.runs.specs.declared.script.Call.the-variants.{Issue, StartSealing, 
 use Rattle.runs.specs.declared.script.Reply.{Reply}
 use Rattle.runs.specs.declared.script.Reply.the-variants.{NotRun, Done, Nonce, Length, Tag, Refused}
 use Rattle.runs.specs.declared.script.Step.{Step}
+
+-- a step that has not run
+abbrev pub fresh : {L : Type 0} → Call L → Step L
+fresh c = record { call = c; reply = NotRun; nonce = None }
 
 -- the nonce that a reply shows
 abbrev pub nonce-in : Reply → List ℕ

@@ -39,20 +39,20 @@ point-of (Drawn d) = digest-draws
 
 -- a sealing that started shows the nonce that it took
 abbrev pub Takes : Option IssuedNonce → Use → Reply → Type 0
-Takes nonce issues r = Unit {0}
-Takes nonce (takes i) r = (n : IssuedNonce) × (nonce ≡ Some n) × (r ≡ Nonce (issued-bytes n))
-Takes nonce neither r = Unit {0}
+Takes held issues r = Unit {0}
+Takes held (takes i) r = (n : IssuedNonce) × (held ≡ Some n) × (r ≡ Nonce (issued-bytes n))
+Takes held neither r = Unit {0}
 
 -- a sealing has no nonce to start with
 abbrev pub Lacks : Option IssuedNonce → Use → Type 0
-Lacks nonce issues = ⊥
-Lacks nonce (takes i) = nonce ≡ None
-Lacks nonce neither = ⊥
+Lacks held issues = ⊥
+Lacks held (takes i) = held ≡ None
+Lacks held neither = ⊥
 
 abbrev pub token-by : Use → Option IssuedNonce → Bool
-token-by issues nonce = isSome nonce
-token-by (takes i) nonce = false
-token-by neither nonce = false
+token-by issues held = isSome held
+token-by (takes i) held = false
+token-by neither held = false
 
 -- whether a step holds a nonce that it issued
 abbrev pub token : {L : Type 0} → Step L → Bool

@@ -1,4 +1,6 @@
 // A script: calls with all that they bring, and what each is answered.
+ghost use mathlib.Core.Path.{_≡_};
+ghost use Rattle.runs.specs.Scripts.{fresh};
 use cipher::book::IssuedNonce;
 use cipher::key::Key;
 use cipher::nonce::BoxNonce;
@@ -47,7 +49,9 @@ pub struct Step<L> {
 
 impl<L> Step<L> {
     // A step that has not run.
-    pub fn new(call: Call<L>) -> Step<L> {
+    pub fn new(call: Call<L>) -> Step<L>
+        ensures { λ r. ⌜ r ≡ fresh call ⌝ }
+    {
         Step {
             call,
             reply: Reply::NotRun,
