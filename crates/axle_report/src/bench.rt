@@ -26,8 +26,38 @@ use std::alloc::Global;
 use std::error::AnyError;
 
 pub const KEY: [u8; 32] = [
-    0x10, 0x32, 0x54, 0x76, 0x98, 0xba, 0xdc, 0xfe, 0x01, 0x23, 0x45, 0x67, 0x89, 0xab, 0xcd, 0xef,
-    0x0f, 0x1e, 0x2d, 0x3c, 0x4b, 0x5a, 0x69, 0x78, 0x87, 0x96, 0xa5, 0xb4, 0xc3, 0xd2, 0xe1, 0xf0,
+    0x10,
+    0x32,
+    0x54,
+    0x76,
+    0x98,
+    0xba,
+    0xdc,
+    0xfe,
+    0x01,
+    0x23,
+    0x45,
+    0x67,
+    0x89,
+    0xab,
+    0xcd,
+    0xef,
+    0x0f,
+    0x1e,
+    0x2d,
+    0x3c,
+    0x4b,
+    0x5a,
+    0x69,
+    0x78,
+    0x87,
+    0x96,
+    0xa5,
+    0xb4,
+    0xc3,
+    0xd2,
+    0xe1,
+    0xf0,
 ];
 
 pub const BENCH: &[u8; 12] = b"BENCH-000017";
@@ -107,7 +137,12 @@ fn slip_calls(heap: Global, script: &mut Vec<Step<Lists>>, note: Note) -> Result
 }
 
 // Prints a step that ran, and adds to the box what it gave.
-fn show_step(rt: &LibcRuntime, at: usize, step: &Step<Lists>, sealed: &mut Sealed) -> Result<(), AnyError> {
+fn show_step(
+    rt: &LibcRuntime,
+    at: usize,
+    step: &Step<Lists>,
+    sealed: &mut Sealed,
+) -> Result<(), AnyError> {
     let said = Said(&step.reply);
     match (&step.call, &step.reply) {
         (Call::StartSealing { key: _, issue: _ }, Reply::Nonce(nonce)) => {
@@ -143,9 +178,15 @@ fn name_of(call: &Call<Lists>) -> &'static str {
         Call::StartOpening { key: _, nonce: _ } => "start opening",
         Call::Add { piece: _ } => "add",
         Call::Close => "close",
-        Call::Write { piece: _, buffer: _ } => "write",
+        Call::Write {
+            piece: _,
+            buffer: _,
+        } => "write",
         Call::Finish => "finish",
-        Call::Open { sealed: _, buffer: _ } => "open",
+        Call::Open {
+            sealed: _,
+            buffer: _,
+        } => "open",
         Call::BeginDigest => "begin digest",
         Call::Feed { piece: _ } => "feed",
         Call::FeedList { list: _ } => "feed list",
@@ -183,8 +224,16 @@ fn set_up() -> Result<Bench, Refusal> {
 }
 
 pub fn report(rt: &LibcRuntime) -> Result<Sealed, AnyError> {
-    println!(rt, "The bench BENCH-000017 seals a record of two axles on three shares, axle by axle.")?;
-    let Bench { key, mut book, engine, note } = match set_up() {
+    println!(
+        rt,
+        "The bench BENCH-000017 seals a record of two axles on three shares, axle by axle."
+    )?;
+    let Bench {
+        key,
+        mut book,
+        engine,
+        note,
+    } = match set_up() {
         Ok(bench) => bench,
         Err(e) => return Err(refused(e)),
     };
@@ -196,7 +245,12 @@ pub fn report(rt: &LibcRuntime) -> Result<Sealed, AnyError> {
     show_run(rt, ran, script.as_slice(), book.count())
 }
 
-fn show_run(rt: &LibcRuntime, ran: usize, script: &[Step<Lists>], count: u32) -> Result<Sealed, AnyError> {
+fn show_run(
+    rt: &LibcRuntime,
+    ran: usize,
+    script: &[Step<Lists>],
+    count: u32,
+) -> Result<Sealed, AnyError> {
     let heap = rt.alloc();
     let mut sealed = Sealed {
         nonce: Vec::new(heap),
@@ -206,7 +260,10 @@ fn show_run(rt: &LibcRuntime, ran: usize, script: &[Step<Lists>], count: u32) ->
         show_step(rt, at, step, &mut sealed)?;
     }
     let calls = script.len();
-    println!(rt, "  {ran} of {calls} calls ran; the book's next count is {count}.")?;
+    println!(
+        rt,
+        "  {ran} of {calls} calls ran; the book's next count is {count}."
+    )?;
     let shown = Hex(sealed.sealed.as_slice());
     println!(rt, "  the box: {shown}")?;
     Ok(sealed)

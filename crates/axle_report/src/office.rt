@@ -41,7 +41,12 @@ fn set_up(nonce: &[u8]) -> Result<Office, Refusal> {
     })
 }
 
-fn open_calls(heap: Global, key: Key, nonce: BoxNonce, sealed: Vec<u8>) -> Result<Script, AllocError> {
+fn open_calls(
+    heap: Global,
+    key: Key,
+    nonce: BoxNonce,
+    sealed: Vec<u8>,
+) -> Result<Script, AllocError> {
     let mut script = Vec::new(heap);
     script.push(Step::new(Call::StartOpening { key, nonce }))?;
     script.push(Step::new(Call::Add {
@@ -85,7 +90,11 @@ fn show_answer(rt: &LibcRuntime, step: &Step<Vec<ForceWord>>) -> Result<(), AnyE
 }
 
 fn open(rt: &LibcRuntime, nonce: &[u8], sealed: Vec<u8>) -> Result<(), AnyError> {
-    let Office { key, nonce, mut book } = match set_up(nonce) {
+    let Office {
+        key,
+        nonce,
+        mut book,
+    } = match set_up(nonce) {
         Ok(office) => office,
         Err(_) => return Err("the office cannot be set up".into()),
     };

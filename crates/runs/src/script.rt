@@ -5,8 +5,8 @@ use cipher::book::IssuedNonce;
 use cipher::key::Key;
 use cipher::nonce::BoxNonce;
 use cipher::nonce::NONCE_LEN;
-use engine::refusal::Refusal;
 use cipher::sealing::TAG_LEN;
+use engine::refusal::Refusal;
 
 #[derive(Drop)]
 pub enum Call<L> {

@@ -13,11 +13,11 @@ use cipher::opening::ClosedOpening;
 use cipher::opening::Opening;
 use cipher::sealing::ClosedSealing;
 use cipher::sealing::Sealing;
+use cipher::sealing::TAG_LEN;
 use digest::drawing::Drawing;
 use digest::feeding::Feeding;
 use engine::engine::Engine;
 use engine::refusal::Refusal;
-use cipher::sealing::TAG_LEN;
 
 fn length_or_refusal(r: Result<usize, Refusal>) -> Reply
     ensures { λ y. ⌜ y ≡ reply-to r ⌝ }
