@@ -223,7 +223,7 @@ fn set_up() -> Result<Bench, Refusal> {
     })
 }
 
-pub fn report(rt: &LibcRuntime) -> Result<Sealed, AnyError> {
+pub(crate) fn report(rt: &LibcRuntime) -> Result<Sealed, AnyError> {
     println!(
         rt,
         "The bench BENCH-000017 seals a record of two axles on three shares, axle by axle."

@@ -106,7 +106,7 @@ fn open(rt: &LibcRuntime, nonce: &[u8], sealed: Vec<u8>) -> Result<(), AnyError>
     }
 }
 
-pub fn report(rt: &LibcRuntime, sealed: Sealed) -> Result<(), AnyError> {
+pub(crate) fn report(rt: &LibcRuntime, sealed: Sealed) -> Result<(), AnyError> {
     let Sealed { nonce, sealed } = sealed;
     let mut damaged = sealed.clone()?;
     println!(rt, "The office opens the box on a plain engine.")?;
