@@ -1,7 +1,7 @@
 mod Bits
-mod Four
+pub mod Four
 mod SharedStrings
 mod Sharing
 mod StandingRow
-mod Strings
-mod Words
+pub mod Strings
+pub mod Words
