@@ -1,0 +1,12 @@
+// The vectors on standard input, on the three engines and the reference: what agrees, and what does not.
+mod boxes;
+mod hashing;
+mod permuting;
+mod run;
+mod vector;
+
+use std::error::AnyError;
+
+fn main(rt: LibcRuntime) -> Result<(), AnyError> {
+    rt.report(run::run(&rt))
+}
