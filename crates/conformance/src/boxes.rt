@@ -64,7 +64,7 @@ pub fn issued_nonce() -> Result<IssuedNonce, Refusal> {
 }
 
 // Whether a ciphertext and a tag are a box.
-fn is_box(text: &[u8], tag: &[u8], sealed: &[u8]) -> bool {
+pub fn is_box(text: &[u8], tag: &[u8], sealed: &[u8]) -> bool {
     if text.len() > sealed.len() {
         return false;
     }

@@ -3,6 +3,8 @@ mod boxes;
 mod hashing;
 mod permuting;
 mod run;
+#[cfg(test)]
+mod tests;
 mod vector;
 
 use std::error::AnyError;
