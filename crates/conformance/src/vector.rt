@@ -1,4 +1,5 @@
 // A test vector, read from its line.
+use engine::engine::WIDTH;
 use std::alloc::Global;
 use std::error::AnyError;
 
@@ -88,11 +89,14 @@ fn hash_vector(heap: Global, length: &str, digest: &str) -> Result<Vector, AnyEr
     }))
 }
 
+// A state that is not 48 bytes is no vector: comparing it would leave bytes out.
 fn permutation_vector(heap: Global, before: &str, after: &str) -> Result<Vector, AnyError> {
-    Ok(Vector::Permutation(PermutationVector {
-        before: string_of(heap, before)?,
-        after: string_of(heap, after)?,
-    }))
+    let before = string_of(heap, before)?;
+    let after = string_of(heap, after)?;
+    if before.len() != WIDTH || after.len() != WIDTH {
+        return Err("a state is not 48 bytes".into());
+    }
+    Ok(Vector::Permutation(PermutationVector { before, after }))
 }
 
 // The vector of a line. A line that is no vector stops the run: left out, it would pass unseen.
