@@ -11,10 +11,18 @@ use Rattle.cases.specs.Table.{Table}
 pub table : Table
 unfolding shifted rotated sp-box columns small-swap big-swap add-constant round first-rounds share-sp-box
 table = record {
-  last-bit = refl; middle-bit = refl; first-bit = refl; all-ones = refl;
-  after-24 = refl; after-23 = refl;
-  share-0 = refl; share-1 = refl; share-2 = refl;
-  blocks-0 = refl; blocks-15 = refl; blocks-16 = refl;
+  last-bit = refl;
+  middle-bit = refl;
+  first-bit = refl;
+  all-ones = refl;
+  after-24 = refl;
+  after-23 = refl;
+  share-0 = refl;
+  share-1 = refl;
+  share-2 = refl;
+  blocks-0 = refl;
+  blocks-15 = refl;
+  blocks-16 = refl;
   nonce-end = refl;
 }
 

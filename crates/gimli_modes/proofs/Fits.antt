@@ -22,10 +22,11 @@ sp-box-fits (w0, w1, w2) (h0, h1, h2) =
     let x = rotated 24 w0 in
     let y = rotated 9 w1 in
     let fx : x < 2 ^ 32 = rotated-fits 8 24 w0 refl h0 in
-    let fy : y < 2 ^ 32 = rotated-fits 23 9 w1 refl h1 in
-    (xor-lt 32 (bitXor w2 y) _ (xor-lt 32 w2 y h2 fy) (shifted-fits 3 (bitAnd x y)),
-    xor-lt 32 (bitXor y x) _ (xor-lt 32 y x fy fx) (shifted-fits 1 (bitOr x w2)),
-    xor-lt 32 (bitXor x (shifted 1 w2)) _ (xor-lt 32 x (shifted 1 w2) fx (shifted-fits 1 w2)) (shifted-fits 2 (bitAnd y w2)))
+    let fy : y < 2 ^ 32 = rotated-fits 23 9 w1 refl h1 in (
+      xor-lt 32 (bitXor w2 y) _ (xor-lt 32 w2 y h2 fy) (shifted-fits 3 (bitAnd x y)),
+      xor-lt 32 (bitXor y x) _ (xor-lt 32 y x fy fx) (shifted-fits 1 (bitOr x w2)),
+      xor-lt 32 (bitXor x (shifted 1 w2)) _ (xor-lt 32 x (shifted 1 w2) fx (shifted-fits 1 w2)) (shifted-fits 2 (bitAnd y w2)),
+    )
 
 columns-whole : (s : State) → Whole s → Whole (columns s)
 unfolding columns

@@ -117,15 +117,15 @@ module _ (s : State) (b : List ℕ) (bytes : Bytes b) where
   block-mixed long =
       same-string (mixed (string s) b) (with-block s b) (length-mixed (string s) b ∙ string-long s)
       (λ p h.
-        let inside : p < length (string s) = rw (string-long s) h in
-        let now : getD (mixed (string s) b) p 0 ≡ bitXor (byte-at s p) (getD b p 0) =
-        mixed-at (string s) b p inside ∙ ap (λ (x : ℕ). bitXor x (getD b p 0)) (string-at s p h) in
-        elim (cases-lt p 16) [
-          | inl low ↦ now ∙ sym (block-low p low)
-          | inr high ↦
-              let past : length b ≤ p = omega arith in
-              now ∙ ap (bitXor (byte-at s p)) (getD-past b p 0 past) ∙ xor-zero-r (byte-at s p) ∙ sym (block-high p high)
-        ])
+      let inside : p < length (string s) = rw (string-long s) h in
+      let now : getD (mixed (string s) b) p 0 ≡ bitXor (byte-at s p) (getD b p 0) =
+      mixed-at (string s) b p inside ∙ ap (λ (x : ℕ). bitXor x (getD b p 0)) (string-at s p h) in
+      elim (cases-lt p 16) [
+        | inl low ↦ now ∙ sym (block-low p low)
+        | inr high ↦
+            let past : length b ≤ p = omega arith in
+            now ∙ ap (bitXor (byte-at s p)) (getD-past b p 0 past) ∙ xor-zero-r (byte-at s p) ∙ sym (block-high p high)
+      ])
 
   pub block-whole : Whole s → Whole (with-block s b)
   block-whole w = record {
