@@ -8,7 +8,7 @@ use lib.ListN.{length, take, drop, replicate}
 use Rattle.std.proofs.shelf.Lists.{take-at}
 use Rattle.sponge.specs.Blocks.{sealed-box, output}
 use Rattle.runs.specs.History.{Answer, done, refused, Event, issued, used-up, sealing-started, opening-started, digest-begun, added, closed, written, opened, finished, fed, feeding-ended, drawn, released, Midway, AllMidway, Parts, nothing, parts, joined, additions, message, cipher-joined, inputs, draws}
-use Rattle.runs.specs.Laws.{Returns, Seals, Digests, Opening, Opens, Silent, Zeroed, Lawful}
+use Rattle.runs.specs.Laws.{Returns, Seals, Digests, Opening, Opens, Tells, Silent, Zeroed, Lawful}
 use Rattle.runs.specs.Traces.{Model, begun, grown, next, Happened, Spent, Answered, Sound, Fresh, AllRight}
 
 -- ---- how a trace goes on
@@ -185,9 +185,15 @@ module _ (rule : List ℕ → List ℕ) where
       answers = λ k n ad box before after r o c e. let x = answered k n ad box before after r o .returns c e in (x .0, x .1);
     }
 
+    tells : Tells h
+    tells = record {
+      writes = λ b a piece before after r same. right-at b (written piece before after r) a same .0;
+      refusals = λ b a box before after r same. right-at b (opened box before after r) a same .0 .tells;
+    }
+
     -- what an opening refused for its tag leaves is known from the box's length and the buffer
     zeroed : Zeroed h
     zeroed b a box before after same = right-at b (opened box before after (refused 9)) a same .0 .zeroed refl
 
   pub lawful : (h : List Event) → AllRight rule (begun [] []) [] h → Lawful rule h
-  lawful h right = record { seals = seals h right; digests = digests h right; opens = opens h right; zeroed = zeroed h right; silent = silent-from-zeroed h h (zeroed h right) (zeroed h right) }
+  lawful h right = record { seals = seals h right; digests = digests h right; opens = opens h right; tells = tells h right; zeroed = zeroed h right; silent = silent-from-zeroed h h (zeroed h right) (zeroed h right) }

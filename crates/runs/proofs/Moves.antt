@@ -5,6 +5,7 @@ use mathlib.Core.List.{List, [], _++_, append-nil}
 use Prim.Native.Nat.{ℕ, _+_, _-_, _≤_}
 use native.Mathlib.Omega.{arith}
 use lib.ListN.{length, take, drop, replicate, length-append}
+use Rattle.std.proofs.shelf.Lists.{drop-at}
 use Rattle.std.specs.declared.option.Option.the-variants.{Some, None}
 use Rattle.std.specs.declared.result.Result.{Result}
 use Rattle.std.specs.declared.result.Result.the-variants.{Ok, Err}
@@ -13,7 +14,8 @@ use Rattle.engine.specs.declared.refusal.Refusal.{Refusal}
 use Rattle.sponge.specs.Blocks.{absorbed, ciphertext, cipher-full, boxed, sealed-box, output}
 use Rattle.sponge.specs.Calls.{Pads}
 use Rattle.sponge.specs.Steps.{State, at, standing, absorbing}
-use Rattle.cipher.specs.Ciphering.{Tags}
+use Rattle.cipher.proofs.Ciphertexts.{length-cipher-piece}
+use Rattle.cipher.specs.Ciphering.{cipher-piece, Tags}
 use Rattle.cipher.specs.Openings.{Opens, TooShort, NoRoom, NoMessage}
 use Rattle.cipher.specs.Sealings.{Wrote}
 use Rattle.cipher.specs.declared.sealing.ClosedSealing.{ClosedSealing}
@@ -23,6 +25,7 @@ use Rattle.runs.proofs.Lawful.{grown-nothing, none-drawn}
 use Rattle.runs.specs.Allowed.{leads, use-of}
 use Rattle.runs.specs.Asks.{asked}
 use Rattle.runs.specs.History.{Answer, done, refused, closed, written, opened, finished, feeding-ended, drawn, nothing}
+use Rattle.runs.specs.Laws.{Refuses}
 use Rattle.runs.specs.Scripts.{call-event, buffer-in, answer-in, reply-to}
 use Rattle.runs.specs.Stages.{point-of, keyed, loaded, Adds, Writes, Holds, Cleared, Ran}
 use Rattle.runs.specs.Traces.{Model, next, grown, Sound, Answered}
@@ -56,6 +59,12 @@ module _ {E : Type 0} (meaning : E → List ℕ) (rule : List ℕ → List ℕ) 
       subst (λ (N : Model). Writes meaning rule N (standing meaning (t .closed .sponge))) (sym (grown-nothing M))
       (subst (λ (c : ClosedSealing E). Writes meaning rule M (standing meaning (c .closed .sponge))) (sym (wrote .3)) w)
 
+  pub at-write : (M : Model) (s t : ClosedSealing E) (piece before after : List ℕ) (r : Result ℕ Refusal) → Wrote meaning rule s piece before t r after → Sound rule M (written piece before after (answer-in (reply-to r)))
+  at-write M s t piece before after (Ok n) wrote =
+      let p = standing meaning (s .closed .sponge) in
+      (wrote .0, wrote .1, ap (drop (length piece)) (wrote .2 .buffer) ∙ drop-at (cipher-piece rule p piece) (drop (length piece) before) (length piece) (length-cipher-piece rule p piece))
+  at-write M s t piece before after (Err e) wrote = (wrote .1, wrote .0, wrote .2)
+
   pub at-finish : (M : Model) (p : State) (tag : List ℕ) → Writes meaning rule M p → Tags rule p tag → Sound rule M (finished tag)
   unfolding sealed-box
   at-finish M p tag w tags = ap (λ (c : List ℕ). c ++ tag) (w .cipher) ∙ tags .box (keyed meaning rule M) (M .so-far .piece) (w .state)
@@ -71,6 +80,7 @@ module _ {E : Type 0} (meaning : E → List ℕ) (rule : List ℕ → List ℕ) 
         returns = λ c e. (m, (ap done (returned .answer), returned .buffer), returned .box);
         refuses = λ c e. let z : _≡_ {A = ℕ} 0 1 = cc in absurd (omega arith);
         sole = o .sole;
+        tells = o .long m (returned .box) ∙ ap (λ (k : ℕ). k + 16) (sym (returned .answer));
         zeroed = λ e. let z : _≡_ {A = ℕ} 0 1 = cc in absurd (omega arith);
       }
 
@@ -80,9 +90,15 @@ module _ {E : Type 0} (meaning : E → List ℕ) (rule : List ℕ → List ℕ) 
     returns = λ c same. let z : _≡_ {A = ℕ} 0 1 = cc in absurd (omega arith);
     refuses = λ c same room m boxed. no-message (o .answer) room m boxed;
     sole = o .sole;
+    tells = told (o .answer);
     zeroed = λ same. let nine : number e ≡ 9 = cc in zeros-left (o .answer) nine;
   }
     where
+      told : TooShort rule (keyed meaning rule M) box before after e ⊎ (NoRoom rule (keyed meaning rule M) box before after e ⊎ NoMessage rule (keyed meaning rule M) box before after e) → Refuses box before after (refused (number e))
+      told (inl short) = inl (short .number-is, short .short, short .buffer)
+      told (inr (inl small)) = inr (inl (small .number-is, small .long, small .short, small .buffer))
+      told (inr (inr none)) = inr (inr (none .number-is, none .long, none .room, none .buffer))
+
       no-message : TooShort rule (keyed meaning rule M) box before after e ⊎ (NoRoom rule (keyed meaning rule M) box before after e ⊎ NoMessage rule (keyed meaning rule M) box before after e) → length box ≤ length before + 16 → (m : List ℕ) → box ≡ boxed rule (keyed meaning rule M) m → ⊥
       no-message (inl short) room m same = omega (arith, short .short, o .long m same)
       no-message (inr (inl small)) room m same = omega (arith, small .short, small .long)

@@ -1,11 +1,11 @@
 -- The laws of every run, in the words of sealing and opening.
 use mathlib.Core.Path.{_≡_}
-use mathlib.Core.Logic.{_↔_}
+use mathlib.Core.Logic.{_↔_, _⊎_}
 use mathlib.Core.List.{List, [], _∷_, _++_}
-use Prim.Native.Nat.{ℕ, _+_, _-_, _≤_}
+use Prim.Native.Nat.{ℕ, _+_, _-_, _≤_, _<_}
 use lib.ListN.{length, drop, replicate}
 use Rattle.sponge.specs.Blocks.{sealed-box, output}
-use Rattle.runs.specs.History.{Answer, done, refused, Event, issued, sealing-started, opening-started, digest-begun, opened, finished, AllMidway, additions, message, cipher-joined, inputs, draws}
+use Rattle.runs.specs.History.{Answer, done, refused, Event, issued, sealing-started, opening-started, digest-begun, written, opened, finished, AllMidway, additions, message, cipher-joined, inputs, draws}
 
 -- the buffer now begins with the message m, the rest of it as before, and the answer is m's length
 abbrev pub Returns : Answer → List ℕ → List ℕ → List ℕ → Type 0
@@ -52,9 +52,29 @@ Zeroed h =
     (b a : List Event) (box before after : List ℕ) →
     h ≡ b ++ (opened box before after (refused 9) ∷ a) → after ≡ replicate (length box - 16) 0 ++ drop (length box - 16) before
 
+-- a write: the answer is the piece's length, and the rest of the buffer stays;
+-- refused with 7 where the buffer is shorter than the piece, and then the buffer is as it was
+abbrev pub Wrote : List ℕ → List ℕ → List ℕ → Answer → Type 0
+Wrote piece before after (done n) = (n ≡ length piece) × (length piece ≤ length before) × (drop (length piece) after ≡ drop (length piece) before)
+Wrote piece before after (refused k) = (k ≡ 7) × (length before < length piece) × (after ≡ before)
+
+-- an opening that is refused: 8 for a box shorter than a tag, 7 for want of room, the buffer as it was after both; else 9
+abbrev pub Refuses : List ℕ → List ℕ → List ℕ → Answer → Type 0
+Refuses box before after (done n) = length box ≡ n + 16
+Refuses box before after (refused k) =
+    ((k ≡ 8) × (length box < 16) × (after ≡ before))
+    ⊎ (((k ≡ 7) × (16 ≤ length box) × (length before < length box - 16) × (after ≡ before))
+      ⊎ ((k ≡ 9) × (16 ≤ length box) × (length box - 16 ≤ length before) × (after ≡ replicate (length box - 16) 0 ++ drop (length box - 16) before)))
+
+-- what every write and every opening answers, and leaves in its buffer
+pub record Tells (h : List Event) : Type 0 where
+  pub writes : (b a : List Event) (piece before after : List ℕ) (r : Answer) → h ≡ b ++ (written piece before after r ∷ a) → Wrote piece before after r
+  pub refusals : (b a : List Event) (box before after : List ℕ) (r : Answer) → h ≡ b ++ (opened box before after r ∷ a) → Refuses box before after r
+
 pub record Lawful (rule : List ℕ → List ℕ) (h : List Event) : Type 0 where
   pub seals : Seals rule h
   pub digests : Digests rule h
   pub opens : Opens rule h
+  pub tells : Tells h
   pub zeroed : Zeroed h
   pub silent : Silent h h

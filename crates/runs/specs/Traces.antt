@@ -6,7 +6,7 @@ use Prim.Native.Nat.{ℕ, _+_, _-_, _≤_}
 use lib.ListN.{length, drop, replicate}
 use Rattle.sponge.specs.Blocks.{sealed-box, output}
 use Rattle.runs.specs.History.{Answer, done, refused, Event, issued, used-up, sealing-started, opening-started, digest-begun, added, closed, written, opened, finished, fed, feeding-ended, drawn, released, Parts, nothing, parts}
-use Rattle.runs.specs.Laws.{Returns}
+use Rattle.runs.specs.Laws.{Returns, Wrote, Refuses}
 
 -- what the engine has been given since it was taken
 pub record Model : Type 0 where
@@ -78,6 +78,7 @@ module _ (rule : List ℕ → List ℕ) where
     pub returns : (c : ℕ) → r ≡ done c → (m : List ℕ) × Returns r before after m × (box ≡ sealed-box rule k n ad m)
     pub refuses : (c : ℕ) → r ≡ refused c → length box ≤ length before + 16 → (m : List ℕ) → box ≡ sealed-box rule k n ad m → ⊥
     pub sole : (m m′ : List ℕ) → box ≡ sealed-box rule k n ad m → box ≡ sealed-box rule k n ad m′ → m ≡ m′
+    pub tells : Refuses box before after r
     pub zeroed : r ≡ refused 9 → after ≡ replicate (length box - 16) 0 ++ drop (length box - 16) before
 
   -- what holds of an event after what the engine has been given
@@ -89,7 +90,7 @@ module _ (rule : List ℕ → List ℕ) where
   Sound M digest-begun = Unit {0}
   Sound M (added a) = Unit {0}
   Sound M closed = Unit {0}
-  Sound M (written p x y r) = Unit {0}
+  Sound M (written p x y r) = Wrote p x y r
   Sound M (opened b x y r) = Answered (M .key) (M .nonce) (M .so-far .addition) b x y r
   Sound M (finished t) = M .so-far .cipher ++ t ≡ sealed-box rule (M .key) (M .nonce) (M .so-far .addition) (M .so-far .piece)
   Sound M (fed f) = M .so-far .draw ≡ []

@@ -1,4 +1,6 @@
-use mathlib.Core.Path.{_≡_, refl, ap, _∙_}
+use mathlib.Core.Path.{_≡_, refl, sym, ap, subst, _∙_}
+use mathlib.Core.List.{List}
+use Prim.Native.Nat.{ℕ}
 use Rattle.std.proofs.shelf.Lists.{refilled-is}
 use Rattle.std.specs.Changed.{refilled}
 use Rattle.std.specs.Of.Vec.{vec-items}
@@ -6,8 +8,11 @@ use Rattle.sponge.specs.Steps.{standing}
 use Rattle.cipher.specs.Sealings.{Wrote}
 use Rattle.runs.specs.Allowed.{use-of}
 use Rattle.runs.specs.Asks.{asked}
-use Rattle.runs.specs.Stages.{Writes}
-use Rattle.runs.proofs.Moves.{ran-by, after-write, at-finish}
+use Rattle.runs.specs.History.{written}
+use Rattle.runs.specs.Scripts.{answer-in, reply-to}
+use Rattle.runs.specs.Traces.{Sound}
+use Rattle.runs.proofs.Moves.{ran-by, at-write, after-write, at-finish}
+use Rattle.runs.specs.declared.script.Reply.{Reply}
 use Rattle.runs.specs.declared.script.Call.the-variants.{Write, Finish}
 use Rattle.runs.specs.declared.stage.Stage.the-variants.{Free, Writing}
 use Rattle.runs.proofs.steps.from_writing.Needs as need
@@ -25,7 +30,11 @@ returns-in-Write g c =
     let filled : vec-items (refilled buffer after) ≡ after = refilled-is buffer after (c .write-sealing .kept .buffer ∙ c .as-mut-slice .ensures .len) in
     let wrote : Wrote meaning rule s (vec-items piece) (vec-items buffer) t r after =
     rw (← c .as-slice .ensures .value, ← c .as-mut-slice .ensures .value) (c .write-sealing .ensures) in
-    ran-by meaning rule (g .L·ItemList .string) (Writing s) (Writing t) (c .args .step .now) _ (Write piece buffer) (c .in-Write .is) refl (λ M h. tt)
+    ran-by meaning rule (g .L·ItemList .string) (Writing s) (Writing t) (c .args .step .now) _ (Write piece buffer) (c .in-Write .is) refl
+      (λ M h.
+        subst (λ (y : Reply). Sound rule M (written (vec-items piece) (vec-items buffer) (vec-items (refilled buffer after)) (answer-in y))) (sym (c .length-or-refusal-step .ensures))
+          (subst (λ (x : List ℕ). Sound rule M (written (vec-items piece) (vec-items buffer) x (answer-in (reply-to r)))) (sym filled)
+            (at-write meaning rule M s t (vec-items piece) (vec-items buffer) after r wrote)))
     (λ M h. rw (filled, c .length-or-refusal-step .ensures) (after-write meaning rule M s t (vec-items piece) (vec-items buffer) after r h wrote))
     tt refl refl refl
 
