@@ -5,6 +5,7 @@ use mathlib.Core.Logic.{_≢_, _⊎_, inl, inr, ⊎-elim}
 use mathlib.Core.List.{List, [], _∷_, _++_, map}
 use Prim.Native.Nat.{ℕ, zero, suc, _+_, _<_, _≤_}
 use native.Mathlib.Omega.{arith}
+use native.Mathlib.Nat.{add-zero, add-assoc}
 use native.Mathlib.Numerals.{add-one}
 use borrow.Author.Tests.{eq-eqb, ne-eqb}
 use lib.Dec.{eqb}
@@ -24,7 +25,7 @@ use Rattle.cipher.specs.declared.key.Key.{Key}
 use Rattle.runs.specs.Allowed.{Point, free, sealing-adds, sealing-writes, opening-adds, opening-opens, digest-feeds, digest-draws, only, leads, Use, issues, takes, neither, use-of, Place, placed, issue-place, place-by, next-place, one-more, how-far}
 use Rattle.runs.specs.Asks.{asked}
 use Rattle.runs.specs.History.{Event, issued, used-up, sealing-started}
-use Rattle.runs.specs.Runs.{calls, start, nonces-of, issued-in, bookish, untaken, Kept, RanCalls, Runs}
+use Rattle.runs.specs.Runs.{calls, start, nonces-of, issued-in, IssueTold, IssuesAlong, bookish, untaken, Kept, RanCalls, Runs}
 use Rattle.runs.specs.Scripts.{buffer-in, event, call-event, issue-event, nonce-in, history}
 use Rattle.runs.specs.Stages.{point-of, token, token-by, emptied, Spends, Readied, Takes, Lacks, Holds, Cleared, Ran, Took, Stuck, Advanced, NonceIssued, IssueRefused, IssueRan, IssueStep, EngineStep, SteppedBy, Stepped}
 use Rattle.runs.specs.Traces.{Model, begun, next, Happened, Spent, Sound, Fresh, AllRight}
@@ -71,6 +72,7 @@ module _ {E : Type 0} (meaning : E → List ℕ) (rule : List ℕ → List ℕ) 
     pub name : b .name ≡ b₀ .name
     pub issued-so-far : b .count ≡ b₀ .count + issued-in (history string i xs ys)
     pub nonces : Nonces ys i (history string i xs ys) b
+    pub along : IssuesAlong (b₀ .name) (b₀ .count) (history string i xs ys)
 
   -- ---- the start
 
@@ -97,6 +99,7 @@ module _ {E : Type 0} (meaning : E → List ℕ) (rule : List ℕ → List ℕ) 
       counted = λ j d n h. absurd (omega arith);
       spent-counted = λ n s. absurd (s .1);
     };
+    along = tt;
   }
 
   -- ---- one call more
@@ -112,6 +115,10 @@ module _ {E : Type 0} (meaning : E → List ℕ) (rule : List ℕ → List ℕ) 
   and-false : (b : Bool) → (b && false) ≡ false
   and-false true = refl
   and-false false = refl
+
+  along-more : (name : List ℕ) (c : ℕ) (h : List Event) (e : Event) → IssuesAlong name c h → IssueTold name (c + issued-in h) e → IssuesAlong name c (h ++ e ∷ [])
+  along-more name c [] e a told = (rw add-zero at told, tt)
+  along-more name c (x ∷ h) e a told = (a .0, along-more name (c + nonces-of x) h e (a .1) (rw add-assoc told))
 
   untaken-more : (h : List Event) (e : Event) → untaken (h ++ e ∷ []) ≡ (untaken h && bookish e)
   untaken-more [] e = and-true (bookish e)
@@ -166,6 +173,7 @@ module _ {E : Type 0} (meaning : E → List ℕ) (rule : List ℕ → List ℕ) 
       pub name : b′ .name ≡ b .name
       pub issued-more : b′ .count ≡ b .count + nonces-of e
       pub nonces : Nonces ys′ (suc i) (h ++ e ∷ []) b′
+      pub told : IssueTold (b₀ .name) (b₀ .count + issued-in h) e
 
     further : (ys′ : List (Step L)) (s′ : Stage E) (b′ : NonceBook) (e : Event) → Further ys′ s′ b′ e → Come b₀ e₀ xs ys′ (suc i) s′ b′
     further ys′ s′ b′ e f =
@@ -194,6 +202,7 @@ module _ {E : Type 0} (meaning : E → List ℕ) (rule : List ℕ → List ℕ) 
           name = f .name ∙ come .name;
           issued-so-far = rw grew (omega (arith, f .issued-more, come .issued-so-far, issued-in-more h e));
           nonces = rw grew (f .nonces);
+          along = rw grew (along-more (b₀ .name) (b₀ .count) h e (come .along) (f .told));
         }
       where
         asks-at : (j : ℕ) (d : Step L) → (j < i) ⊎ (i ≤ j) → (j ≡ i) ⊎ (j ≡ i → ⊥) → asked (getD ys′ j d .call) ≡ asked (getD xs j d .call)
@@ -212,23 +221,24 @@ module _ {E : Type 0} (meaning : E → List ℕ) (rule : List ℕ → List ℕ) 
     engine's : bookish e ≡ false
     fresh : (past : List Event) → Fresh past e
     no-start : (k n : List ℕ) → e ≡ sealing-started k n → ⊥
+    silent : (name : List ℕ) (count : ℕ) → IssueTold name count e
 
   -- a call issues, or starts a sealing, or has nothing to do with nonces
   sort : (c : Call L) → (c ≡ Issue) ⊎ (((k : Key) × ((i : ℕ) × (c ≡ StartSealing k i))) ⊎ ((use-of c ≡ neither) × ((after : List ℕ) (r : Reply) → Plain (call-event string c after r))))
   sort Issue = inl refl
   sort (StartSealing k i) = inr (inl (k, (i, refl)))
-  sort (StartOpening k n) = inr (inr (refl, λ after r. record { none-issued = refl; engine's = refl; fresh = λ p. tt; no-start = λ k n e. no cc }))
-  sort (Add a) = inr (inr (refl, λ after r. record { none-issued = refl; engine's = refl; fresh = λ p. tt; no-start = λ k n e. no cc }))
-  sort Close = inr (inr (refl, λ after r. record { none-issued = refl; engine's = refl; fresh = λ p. tt; no-start = λ k n e. no cc }))
-  sort (Write m b) = inr (inr (refl, λ after r. record { none-issued = refl; engine's = refl; fresh = λ p. tt; no-start = λ k n e. no cc }))
-  sort Finish = inr (inr (refl, λ after r. record { none-issued = refl; engine's = refl; fresh = λ p. tt; no-start = λ k n e. no cc }))
-  sort (Open s b) = inr (inr (refl, λ after r. record { none-issued = refl; engine's = refl; fresh = λ p. tt; no-start = λ k n e. no cc }))
-  sort BeginDigest = inr (inr (refl, λ after r. record { none-issued = refl; engine's = refl; fresh = λ p. tt; no-start = λ k n e. no cc }))
-  sort (Feed f) = inr (inr (refl, λ after r. record { none-issued = refl; engine's = refl; fresh = λ p. tt; no-start = λ k n e. no cc }))
-  sort (FeedList l) = inr (inr (refl, λ after r. record { none-issued = refl; engine's = refl; fresh = λ p. tt; no-start = λ k n e. no cc }))
-  sort EndFeeding = inr (inr (refl, λ after r. record { none-issued = refl; engine's = refl; fresh = λ p. tt; no-start = λ k n e. no cc }))
-  sort (Draw b) = inr (inr (refl, λ after r. record { none-issued = refl; engine's = refl; fresh = λ p. tt; no-start = λ k n e. no cc }))
-  sort Release = inr (inr (refl, λ after r. record { none-issued = refl; engine's = refl; fresh = λ p. tt; no-start = λ k n e. no cc }))
+  sort (StartOpening k n) = inr (inr (refl, λ after r. record { none-issued = refl; engine's = refl; fresh = λ p. tt; no-start = λ k n e. no cc; silent = λ name count. tt }))
+  sort (Add a) = inr (inr (refl, λ after r. record { none-issued = refl; engine's = refl; fresh = λ p. tt; no-start = λ k n e. no cc; silent = λ name count. tt }))
+  sort Close = inr (inr (refl, λ after r. record { none-issued = refl; engine's = refl; fresh = λ p. tt; no-start = λ k n e. no cc; silent = λ name count. tt }))
+  sort (Write m b) = inr (inr (refl, λ after r. record { none-issued = refl; engine's = refl; fresh = λ p. tt; no-start = λ k n e. no cc; silent = λ name count. tt }))
+  sort Finish = inr (inr (refl, λ after r. record { none-issued = refl; engine's = refl; fresh = λ p. tt; no-start = λ k n e. no cc; silent = λ name count. tt }))
+  sort (Open s b) = inr (inr (refl, λ after r. record { none-issued = refl; engine's = refl; fresh = λ p. tt; no-start = λ k n e. no cc; silent = λ name count. tt }))
+  sort BeginDigest = inr (inr (refl, λ after r. record { none-issued = refl; engine's = refl; fresh = λ p. tt; no-start = λ k n e. no cc; silent = λ name count. tt }))
+  sort (Feed f) = inr (inr (refl, λ after r. record { none-issued = refl; engine's = refl; fresh = λ p. tt; no-start = λ k n e. no cc; silent = λ name count. tt }))
+  sort (FeedList l) = inr (inr (refl, λ after r. record { none-issued = refl; engine's = refl; fresh = λ p. tt; no-start = λ k n e. no cc; silent = λ name count. tt }))
+  sort EndFeeding = inr (inr (refl, λ after r. record { none-issued = refl; engine's = refl; fresh = λ p. tt; no-start = λ k n e. no cc; silent = λ name count. tt }))
+  sort (Draw b) = inr (inr (refl, λ after r. record { none-issued = refl; engine's = refl; fresh = λ p. tt; no-start = λ k n e. no cc; silent = λ name count. tt }))
+  sort Release = inr (inr (refl, λ after r. record { none-issued = refl; engine's = refl; fresh = λ p. tt; no-start = λ k n e. no cc; silent = λ name count. tt }))
 
   is-issue : (c : Call L) → use-of c ≡ issues → c ≡ Issue
   is-issue c u = elim (sort c) [ inl e ↦ e | inr w ↦ elim w [ inl p ↦ (let e = p .1 .1 in no cc) | inr p ↦ (let e = p .0 in no cc) ] ]
@@ -351,7 +361,7 @@ module _ {E : Type 0} (meaning : E → List ℕ) (rule : List ℕ → List ℕ) 
             | inr l ↦ getD-append-left (come .place .unspent) (v ∷ []) false j (rw (come .slots-long) l) ∙ come .slots j d l ∙ ap token (sym (others j d (omega arith)))
           ]
 
-      module _ (e : Event) (same-call : y .call ≡ getD ys i d .call) (event-is : issue-event (y .reply) ≡ e) (bookly : bookish e ≡ true) (sound : Sound rule (model-after (begun [] []) past) e) (fresh : Fresh past e) (midway : next (model-after (begun [] []) past) e ≡ model-after (begun [] []) past) (used-up? : Bool) (last : eqb (come .place .count) last-count ≡ used-up?) (held : not used-up? ≡ token y) (count : b′ .count ≡ cond used-up? (b .count) (b .count + 1)) (more : b′ .count ≡ b .count + nonces-of e) (name : b′ .name ≡ b .name) (nonces : Nonces with-step (suc i) (past ++ e ∷ []) b′) where
+      module _ (e : Event) (same-call : y .call ≡ getD ys i d .call) (event-is : issue-event (y .reply) ≡ e) (bookly : bookish e ≡ true) (sound : Sound rule (model-after (begun [] []) past) e) (fresh : Fresh past e) (midway : next (model-after (begun [] []) past) e ≡ model-after (begun [] []) past) (used-up? : Bool) (last : eqb (come .place .count) last-count ≡ used-up?) (held : not used-up? ≡ token y) (count : b′ .count ≡ cond used-up? (b .count) (b .count + 1)) (more : b′ .count ≡ b .count + nonces-of e) (name : b′ .name ≡ b .name) (nonces : Nonces with-step (suc i) (past ++ e ∷ []) b′) (told : IssueTold (b .name) (b .count) e) where
         issue-further : Come b₀ e₀ xs with-step (suc i) s b′
         issue-further = further b₀ e₀ xs ys i s b come within d with-step s b′ e record {
           long = length-set ys i y;
@@ -372,6 +382,7 @@ module _ {E : Type 0} (meaning : E → List ℕ) (rule : List ℕ → List ℕ) 
           name = name;
           issued-more = more;
           nonces = nonces;
+          told = rw (← come .name, ← come .issued-so-far) told;
         }
 
       after-issue : IssueRan b (getD ys i d) b′ y → Come b₀ e₀ xs with-step (suc i) s b′
@@ -383,6 +394,7 @@ module _ {E : Type 0} (meaning : E → List ℕ) (rule : List ℕ → List ℕ) 
           (nonces-issued ys with-step i past (issued (issued-bytes n)) b b′ (come .nonces) (ni .issues .name) (omega (arith, ni .issues .count)) n refl (ni .issues)
           (λ j d m k held. same-held (getD with-step j d) (getD ys j d) m (others j d (omega arith)) held)
           (λ d m held. let slot : y .nonce ≡ Some m = rw (here d) at (held .1) in let own = ni .nonce in cc))
+          (ni .issues .left, ni .issues .bytes)
       after-issue (inr (e, refusal)) =
           let used : use-of (y .call) ≡ issues = ap use-of (refusal .call) ∙ issue-call in
           let same : b′ ≡ b = refusal .book in
@@ -392,6 +404,7 @@ module _ {E : Type 0} (meaning : E → List ℕ) (rule : List ℕ → List ℕ) 
           (λ j d m k held. same-held (getD with-step j d) (getD ys j d) m (others j d (omega arith)) held)
           (λ d m held. let slot : y .nonce ≡ Some m = rw (here d) at (held .1) in let own = refusal .nonce in no cc)
           (λ k n e. no cc))
+          (refusal .used-up)
 
     -- a call of the engine, on a script `mid` that is ys but for a nonce taken out
     module _ (mid : List (Step L)) (t : Stage E) (y : Step L) (same-long : length mid ≡ length ys) (untouched : (j : ℕ) (d : Step L) → i ≤ j → getD mid j d ≡ getD ys j d) (mid-alike : (j : ℕ) (d : Step L) → j < i → Alike (getD mid j d) (getD ys j d)) (ran : Ran meaning rule string s (getD mid i d) t y) where
@@ -423,7 +436,7 @@ module _ {E : Type 0} (meaning : E → List ℕ) (rule : List ℕ → List ℕ) 
             | inr l ↦ getD-append-left u (false ∷ []) false j (rw u-long l) ∙ before j d l ∙ ap token (sym (then-else j d (omega arith)))
           ]
 
-      module _ (engine's : bookish e ≡ false) (none-issued : nonces-of e ≡ 0) (fresh : Fresh past e) (u : List Bool) (u-long : length u ≡ i) (led : next-place (come .place) (getD xs i d .call) ≡ placed (come .place .count) u (leads (point-of s) (getD xs i d .call))) (before : (j : ℕ) (d : Step L) → j < i → getD u j false ≡ token (getD mid j d)) (none : false ≡ token y) (nonces : Nonces then (suc i) (past ++ e ∷ []) b) where
+      module _ (engine's : bookish e ≡ false) (none-issued : nonces-of e ≡ 0) (fresh : Fresh past e) (u : List Bool) (u-long : length u ≡ i) (led : next-place (come .place) (getD xs i d .call) ≡ placed (come .place .count) u (leads (point-of s) (getD xs i d .call))) (before : (j : ℕ) (d : Step L) → j < i → getD u j false ≡ token (getD mid j d)) (none : false ≡ token y) (nonces : Nonces then (suc i) (past ++ e ∷ []) b) (told : IssueTold (b₀ .name) (b₀ .count + issued-in past) e) where
         engine-further : Come b₀ e₀ xs then (suc i) t b
         engine-further = further b₀ e₀ xs ys i s b come within d then t b e record {
           long = length-set mid i y ∙ same-long;
@@ -444,6 +457,7 @@ module _ {E : Type 0} (meaning : E → List ℕ) (rule : List ℕ → List ℕ) 
           name = refl;
           issued-more = omega (arith, none-issued);
           nonces = nonces;
+          told = told;
         }
 
     -- a call that has nothing to do with nonces
@@ -459,6 +473,7 @@ module _ {E : Type 0} (meaning : E → List ℕ) (rule : List ℕ → List ℕ) 
         (λ j d m k held. same-held (getD (set ys i y) j d) (getD ys j d) m (getD-set-other ys i j y d (omega arith)) held)
         (λ d m held. let own : use-of (y .call) ≡ issues = rw (getD-set-same ys i y d inside) at (held .0) in no cc)
         (quiet .no-start))
+        (quiet .silent (b₀ .name) (b₀ .count + issued-in past))
 
     -- a sealing that starts with the nonce of step j
     after-start : (j : ℕ) (n : IssuedNonce) (t : Stage E) (y : Step L) → use-of (getD xs i d .call) ≡ takes j → j < i → Held (getD ys j d) n → Ran meaning rule string s (getD (set ys j (emptied (getD ys j d))) i d) t y → y .reply ≡ Nonce (issued-bytes n) → Come b₀ e₀ xs (set (set ys j (emptied (getD ys j d))) i y) (suc i) t b
@@ -500,6 +515,7 @@ module _ {E : Type 0} (meaning : E → List ℕ) (rule : List ℕ → List ℕ) 
         (same-held (getD mid k d′) (getD ys k d′) m (other k d′ not-j) in-mid, not-j))
         (λ d′ m held. let own : use-of (y .call) ≡ issues = rw (getD-set-same mid i y d′ inside-mid) at (held .0) in no cc)
         default)
+        (subst (IssueTold (b₀ .name) (b₀ .count + issued-in past)) (sym e-is) tt)
 
     -- ---- any call
 
@@ -684,6 +700,7 @@ module _ {E : Type 0} (meaning : E → List ℕ) (rule : List ℕ → List ℕ) 
     rest = come .rest;
     asks = come .asks;
     name = come .name;
+    nonces = come .along;
     count = come .issued-so-far;
     engine = come .kept;
   }

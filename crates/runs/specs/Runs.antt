@@ -2,10 +2,11 @@
 use mathlib.Core.Path.{_≡_}
 use mathlib.Core.Bool.{Bool, true, false, _&&_}
 use mathlib.Core.List.{List, [], _∷_, map}
-use Prim.Native.Nat.{ℕ, _+_, _≤_}
+use Prim.Native.Nat.{ℕ, _+_, _≤_, _<_}
 use lib.ListN.{getD}
 use Rattle.std.specs.Orderings.{When}
 use Rattle.engine.specs.Strings.{zeros}
+use Rattle.cipher.specs.Nonces.{nonce-of, last-count}
 use Rattle.cipher.specs.declared.book.NonceBook.{NonceBook}
 use Rattle.runs.specs.Allowed.{Place, free, how-far}
 use Rattle.runs.specs.Asks.{asked}
@@ -46,6 +47,28 @@ nonces-of released = 0
 abbrev pub issued-in : List Event → ℕ
 issued-in [] = 0
 issued-in (e ∷ h) = nonces-of e + issued-in h
+
+-- an event of a book with this name at a count: the nonce is the name and the count; at the last count there is none
+abbrev pub IssueTold : List ℕ → ℕ → Event → Type 0
+IssueTold name count (issued n) = (count < last-count) × (n ≡ nonce-of name count)
+IssueTold name count used-up = count ≡ last-count
+IssueTold name count (sealing-started k n) = Unit {0}
+IssueTold name count (opening-started k n) = Unit {0}
+IssueTold name count digest-begun = Unit {0}
+IssueTold name count (added a) = Unit {0}
+IssueTold name count closed = Unit {0}
+IssueTold name count (written p x y r) = Unit {0}
+IssueTold name count (opened b x y r) = Unit {0}
+IssueTold name count (finished t) = Unit {0}
+IssueTold name count (fed f) = Unit {0}
+IssueTold name count feeding-ended = Unit {0}
+IssueTold name count (drawn d) = Unit {0}
+IssueTold name count released = Unit {0}
+
+-- a history on such a book, from a count on
+abbrev pub IssuesAlong : List ℕ → ℕ → List Event → Type 0
+IssuesAlong name count [] = Unit {0}
+IssuesAlong name count (e ∷ h) = IssueTold name count e × IssuesAlong name (count + nonces-of e) h
 
 -- the event is the book's alone
 abbrev pub bookish : Event → Bool
@@ -89,7 +112,8 @@ pub record RanCalls {E : Type 0} (meaning : E → List ℕ) (rule : List ℕ →
   pub rest : (j : ℕ) (d : Step L) → n ≤ j → getD ys j d ≡ getD xs j d
   -- every call still brings what it brought, but for what stands in its buffer
   pub asks : (j : ℕ) (d : Step L) → asked (getD ys j d .call) ≡ asked (getD xs j d .call)
-  -- each nonce issued raised the count by one
+  -- each nonce issued is the name and the count, which it raised by one; 5 came at the last count alone
+  pub nonces : IssuesAlong (b .name) (b .count) (history string n xs ys)
   pub name : b′ .name ≡ b .name
   pub count : b′ .count ≡ b .count + issued-in (history string n xs ys)
   pub engine : Kept meaning s (history string n xs ys) e
@@ -104,7 +128,8 @@ pub record Runs {E : Type 0} (meaning : E → List ℕ) (rule : List ℕ → Lis
   pub rest : (j : ℕ) (d : Step L) → r .ran ≤ j → getD ys j d ≡ getD xs j d
   -- every call still brings what it brought, but for what stands in its buffer
   pub asks : (j : ℕ) (d : Step L) → asked (getD ys j d .call) ≡ asked (getD xs j d .call)
-  -- each nonce issued raised the count by one
+  -- each nonce issued is the name and the count, which it raised by one; 5 came at the last count alone
+  pub nonces : IssuesAlong (b .name) (b .count) (history string (r .ran) xs ys)
   pub name : b′ .name ≡ b .name
   pub count : b′ .count ≡ b .count + issued-in (history string (r .ran) xs ys)
   -- an engine that was taken comes back cleared, one that never was is as it was
