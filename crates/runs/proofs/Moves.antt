@@ -26,10 +26,11 @@ use Rattle.runs.specs.Allowed.{leads, use-of}
 use Rattle.runs.specs.Asks.{asked}
 use Rattle.runs.specs.History.{Answer, done, refused, closed, written, opened, finished, feeding-ended, drawn, nothing}
 use Rattle.runs.specs.Laws.{Refuses}
-use Rattle.runs.specs.Scripts.{call-event, buffer-in, answer-in, reply-to}
+use Rattle.runs.specs.Scripts.{Kind, a-length, a-refusal, kind, Replied, call-event, buffer-in, answer-in, reply-to}
 use Rattle.runs.specs.Stages.{point-of, keyed, loaded, Adds, Writes, Holds, Cleared, Ran}
 use Rattle.runs.specs.Traces.{Model, next, grown, Sound, Answered}
 use Rattle.runs.specs.declared.script.Call.{Call}
+use Rattle.runs.specs.declared.script.Reply.{Reply}
 use Rattle.runs.specs.declared.script.Step.{Step}
 use Rattle.runs.specs.declared.stage.Stage.{Stage}
 
@@ -129,15 +130,21 @@ module _ {E : Type 0} (meaning : E → List ℕ) (rule : List ℕ → List ℕ) 
   pub after-draw : (M : Model) (d : Drawing E) (bytes : List ℕ) → Sound rule M (drawn bytes) → Drawn meaning rule d (M .so-far .input) (length (M .so-far .draw) + length bytes) → Draws d (next M (drawn bytes))
   after-draw M d bytes sound more = rw append-nil (rw length-append more, sound)
 
+  -- a length or a refusal
+  pub length-or-refusal : (r : Result ℕ Refusal) (y : Reply) → y ≡ reply-to r → (kind y ≡ a-length) ⊎ (kind y ≡ a-refusal)
+  length-or-refusal (Ok n) y e = inl (ap kind e)
+  length-or-refusal (Err x) y e = inr (ap kind e)
+
   -- ---- a step whose call is known
 
   module _ {L : Type 0} (string : L → List ℕ) where
-    pub ran-by : (s t : Stage E) (x y : Step L) (k : Call L) → x .call ≡ k → leads (point-of s) k ≡ Some (point-of t) → ((M : Model) → Holds meaning rule s M → Sound rule M (call-event string k (buffer-in (y .call)) (y .reply))) → ((M : Model) → Holds meaning rule s M → Holds meaning rule t (next M (call-event string k (buffer-in (y .call)) (y .reply)))) → Cleared meaning rule t → asked (y .call) ≡ asked k → use-of (y .call) ≡ use-of k → y .nonce ≡ x .nonce → Ran meaning rule string s x t y
-    ran-by s t x y k e table sound holds cleared asks uses nonce = record {
+    pub ran-by : (s t : Stage E) (x y : Step L) (k : Call L) → x .call ≡ k → leads (point-of s) k ≡ Some (point-of t) → ((M : Model) → Holds meaning rule s M → Sound rule M (call-event string k (buffer-in (y .call)) (y .reply))) → ((M : Model) → Holds meaning rule s M → Holds meaning rule t (next M (call-event string k (buffer-in (y .call)) (y .reply)))) → Cleared meaning rule t → Replied k (y .reply) → asked (y .call) ≡ asked k → use-of (y .call) ≡ use-of k → y .nonce ≡ x .nonce → Ran meaning rule string s x t y
+    ran-by s t x y k e table sound holds cleared replied asks uses nonce = record {
       table = ap (leads (point-of s)) e ∙ table;
       sound = λ M h. subst (λ (k : Call L). Sound rule M (call-event string k (buffer-in (y .call)) (y .reply))) (sym e) (sound M h);
       holds = λ M h. subst (λ (k : Call L). Holds meaning rule t (next M (call-event string k (buffer-in (y .call)) (y .reply)))) (sym e) (holds M h);
       cleared = cleared;
+      replied = subst (λ (k : Call L). Replied k (y .reply)) (sym e) replied;
       asks = asks ∙ ap asked (sym e);
       uses = uses ∙ ap use-of (sym e);
       nonce = nonce;

@@ -24,9 +24,9 @@ use Rattle.cipher.specs.declared.book.NonceBook.{NonceBook}
 use Rattle.cipher.specs.declared.key.Key.{Key}
 use Rattle.runs.specs.Allowed.{Point, free, sealing-adds, sealing-writes, opening-adds, opening-opens, digest-feeds, digest-draws, only, leads, Use, issues, takes, neither, use-of, Place, placed, issue-place, place-by, next-place, one-more, how-far}
 use Rattle.runs.specs.Asks.{asked}
-use Rattle.runs.specs.History.{Event, issued, used-up, sealing-started}
+use Rattle.runs.specs.History.{refused, Event, issued, used-up, sealing-started}
 use Rattle.runs.specs.Runs.{calls, start, nonces-of, issued-in, IssueTold, IssuesAlong, bookish, untaken, Kept, RanCalls, Runs}
-use Rattle.runs.specs.Scripts.{buffer-in, event, call-event, issue-event, nonce-in, history}
+use Rattle.runs.specs.Scripts.{kind, answer-in, Replied, buffer-in, event, call-event, issue-event, nonce-in, history}
 use Rattle.runs.specs.Stages.{point-of, token, token-by, emptied, Spends, Readied, Takes, Lacks, Holds, Cleared, Ran, Took, Stuck, Advanced, NonceIssued, IssueRefused, IssueRan, IssueStep, EngineStep, SteppedBy, Stepped}
 use Rattle.runs.specs.Traces.{Model, begun, next, Happened, Spent, Sound, Fresh, AllRight}
 use Rattle.runs.proofs.Histories.{Alike, history-agrees, history-more, model-more, right-more, happened-more, happened-last}
@@ -73,6 +73,7 @@ module _ {E : Type 0} (meaning : E → List ℕ) (rule : List ℕ → List ℕ) 
     pub issued-so-far : b .count ≡ b₀ .count + issued-in (history string i xs ys)
     pub nonces : Nonces ys i (history string i xs ys) b
     pub along : IssuesAlong (b₀ .name) (b₀ .count) (history string i xs ys)
+    pub replies : (j : ℕ) (d : Step L) → j < i → Replied (getD xs j d .call) (getD ys j d .reply)
 
   -- ---- the start
 
@@ -100,9 +101,13 @@ module _ {E : Type 0} (meaning : E → List ℕ) (rule : List ℕ → List ℕ) 
       spent-counted = λ n s. absurd (s .1);
     };
     along = tt;
+    replies = λ j d h. absurd (omega arith);
   }
 
   -- ---- one call more
+
+  here-or-before : (j i : ℕ) → j < suc i → (j ≡ i) ⊎ (j < i)
+  here-or-before j i k = elim (cases-eq j i) [ inl e ↦ inl e | inr ne ↦ inr (omega arith) ]
 
   issued-in-more : (h : List Event) (e : Event) → issued-in (h ++ e ∷ []) ≡ issued-in h + nonces-of e
   issued-in-more [] e = omega arith
@@ -174,6 +179,7 @@ module _ {E : Type 0} (meaning : E → List ℕ) (rule : List ℕ → List ℕ) 
       pub issued-more : b′ .count ≡ b .count + nonces-of e
       pub nonces : Nonces ys′ (suc i) (h ++ e ∷ []) b′
       pub told : IssueTold (b₀ .name) (b₀ .count + issued-in h) e
+      pub replied : Replied (getD xs i d .call) (getD ys′ i d .reply)
 
     further : (ys′ : List (Step L)) (s′ : Stage E) (b′ : NonceBook) (e : Event) → Further ys′ s′ b′ e → Come b₀ e₀ xs ys′ (suc i) s′ b′
     further ys′ s′ b′ e f =
@@ -203,6 +209,7 @@ module _ {E : Type 0} (meaning : E → List ℕ) (rule : List ℕ → List ℕ) 
           issued-so-far = rw grew (omega (arith, f .issued-more, come .issued-so-far, issued-in-more h e));
           nonces = rw grew (f .nonces);
           along = rw grew (along-more (b₀ .name) (b₀ .count) h e (come .along) (f .told));
+          replies = λ j d′ k. elim (here-or-before j i k) [ inl at·here ↦ rw (at·here, getD-default xs i d′ d within, getD-default ys′ i d′ d inside) (f .replied) | inr l ↦ rw (f .alike j d′ l .1) (come .replies j d′ l) ];
         }
       where
         asks-at : (j : ℕ) (d : Step L) → (j < i) ⊎ (i ≤ j) → (j ≡ i) ⊎ (j ≡ i → ⊥) → asked (getD ys′ j d .call) ≡ asked (getD xs j d .call)
@@ -263,9 +270,6 @@ module _ {E : Type 0} (meaning : E → List ℕ) (rule : List ℕ → List ℕ) 
 
   counted-more : (b b′ : NonceBook) (n : List ℕ) → b′ .name ≡ b .name → b .count ≤ b′ .count → Counted b n → Counted b′ n
   counted-more b b′ n name count c = (c .0, omega (arith, c .1), rw name (c .2))
-
-  here-or-before : (j i : ℕ) → j < suc i → (j ≡ i) ⊎ (j < i)
-  here-or-before j i k = elim (cases-eq j i) [ inl e ↦ inl e | inr ne ↦ inr (omega arith) ]
 
   spent-before : (n : List ℕ) (h : List Event) (e : Event) → ((k : List ℕ) → e ≡ sealing-started k n → ⊥) → Spent n (h ++ e ∷ []) → Spent n h
   spent-before n h e other s = elim (happened-last (sealing-started (s .0) n) e h (s .1)) [ inl p ↦ (s .0, p) | inr same ↦ absurd (other (s .0) same) ]
@@ -361,7 +365,7 @@ module _ {E : Type 0} (meaning : E → List ℕ) (rule : List ℕ → List ℕ) 
             | inr l ↦ getD-append-left (come .place .unspent) (v ∷ []) false j (rw (come .slots-long) l) ∙ come .slots j d l ∙ ap token (sym (others j d (omega arith)))
           ]
 
-      module _ (e : Event) (same-call : y .call ≡ getD ys i d .call) (event-is : issue-event (y .reply) ≡ e) (bookly : bookish e ≡ true) (sound : Sound rule (model-after (begun [] []) past) e) (fresh : Fresh past e) (midway : next (model-after (begun [] []) past) e ≡ model-after (begun [] []) past) (used-up? : Bool) (last : eqb (come .place .count) last-count ≡ used-up?) (held : not used-up? ≡ token y) (count : b′ .count ≡ cond used-up? (b .count) (b .count + 1)) (more : b′ .count ≡ b .count + nonces-of e) (name : b′ .name ≡ b .name) (nonces : Nonces with-step (suc i) (past ++ e ∷ []) b′) (told : IssueTold (b .name) (b .count) e) where
+      module _ (e : Event) (same-call : y .call ≡ getD ys i d .call) (event-is : issue-event (y .reply) ≡ e) (bookly : bookish e ≡ true) (sound : Sound rule (model-after (begun [] []) past) e) (fresh : Fresh past e) (midway : next (model-after (begun [] []) past) e ≡ model-after (begun [] []) past) (used-up? : Bool) (last : eqb (come .place .count) last-count ≡ used-up?) (held : not used-up? ≡ token y) (count : b′ .count ≡ cond used-up? (b .count) (b .count + 1)) (more : b′ .count ≡ b .count + nonces-of e) (name : b′ .name ≡ b .name) (nonces : Nonces with-step (suc i) (past ++ e ∷ []) b′) (told : IssueTold (b .name) (b .count) e) (replied : Replied {L = L} Issue (y .reply)) where
         issue-further : Come b₀ e₀ xs with-step (suc i) s b′
         issue-further = further b₀ e₀ xs ys i s b come within d with-step s b′ e record {
           long = length-set ys i y;
@@ -383,6 +387,7 @@ module _ {E : Type 0} (meaning : E → List ℕ) (rule : List ℕ → List ℕ) 
           issued-more = more;
           nonces = nonces;
           told = rw (← come .name, ← come .issued-so-far) told;
+          replied = rw (call-is, here d) replied;
         }
 
       after-issue : IssueRan b (getD ys i d) b′ y → Come b₀ e₀ xs with-step (suc i) s b′
@@ -394,7 +399,7 @@ module _ {E : Type 0} (meaning : E → List ℕ) (rule : List ℕ → List ℕ) 
           (nonces-issued ys with-step i past (issued (issued-bytes n)) b b′ (come .nonces) (ni .issues .name) (omega (arith, ni .issues .count)) n refl (ni .issues)
           (λ j d m k held. same-held (getD with-step j d) (getD ys j d) m (others j d (omega arith)) held)
           (λ d m held. let slot : y .nonce ≡ Some m = rw (here d) at (held .1) in let own = ni .nonce in cc))
-          (ni .issues .left, ni .issues .bytes)
+          (ni .issues .left, ni .issues .bytes) (inl (ap kind (ni .reply)))
       after-issue (inr (e, refusal)) =
           let used : use-of (y .call) ≡ issues = ap use-of (refusal .call) ∙ issue-call in
           let same : b′ ≡ b = refusal .book in
@@ -404,7 +409,7 @@ module _ {E : Type 0} (meaning : E → List ℕ) (rule : List ℕ → List ℕ) 
           (λ j d m k held. same-held (getD with-step j d) (getD ys j d) m (others j d (omega arith)) held)
           (λ d m held. let slot : y .nonce ≡ Some m = rw (here d) at (held .1) in let own = refusal .nonce in no cc)
           (λ k n e. no cc))
-          (refusal .used-up)
+          (refusal .used-up) (inr (ap answer-in (refusal .reply) ∙ ap refused (refusal .number-is)))
 
     -- a call of the engine, on a script `mid` that is ys but for a nonce taken out
     module _ (mid : List (Step L)) (t : Stage E) (y : Step L) (same-long : length mid ≡ length ys) (untouched : (j : ℕ) (d : Step L) → i ≤ j → getD mid j d ≡ getD ys j d) (mid-alike : (j : ℕ) (d : Step L) → j < i → Alike (getD mid j d) (getD ys j d)) (ran : Ran meaning rule string s (getD mid i d) t y) where
@@ -458,6 +463,7 @@ module _ {E : Type 0} (meaning : E → List ℕ) (rule : List ℕ → List ℕ) 
           issued-more = omega (arith, none-issued);
           nonces = nonces;
           told = told;
+          replied = rw (then-here d) (x-ran .replied);
         }
 
     -- a call that has nothing to do with nonces
@@ -700,6 +706,7 @@ module _ {E : Type 0} (meaning : E → List ℕ) (rule : List ℕ → List ℕ) 
     rest = come .rest;
     asks = come .asks;
     name = come .name;
+    replies = come .replies;
     nonces = come .along;
     count = come .issued-so-far;
     engine = come .kept;

@@ -64,7 +64,7 @@ Refuses box before after (done n) = length box ≡ n + 16
 Refuses box before after (refused k) =
     ((k ≡ 8) × (length box < 16) × (after ≡ before))
     ⊎ (((k ≡ 7) × (16 ≤ length box) × (length before < length box - 16) × (after ≡ before))
-      ⊎ ((k ≡ 9) × (16 ≤ length box) × (length box - 16 ≤ length before) × (after ≡ replicate (length box - 16) 0 ++ drop (length box - 16) before)))
+    ⊎ ((k ≡ 9) × (16 ≤ length box) × (length box - 16 ≤ length before) × (after ≡ replicate (length box - 16) 0 ++ drop (length box - 16) before)))
 
 -- what every write and every opening answers, and leaves in its buffer
 pub record Tells (h : List Event) : Type 0 where

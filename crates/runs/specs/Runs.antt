@@ -12,7 +12,7 @@ use Rattle.runs.specs.Allowed.{Place, free, how-far}
 use Rattle.runs.specs.Asks.{asked}
 use Rattle.runs.specs.History.{Event, issued, used-up, sealing-started, opening-started, digest-begun, added, closed, written, opened, finished, fed, feeding-ended, drawn, released}
 use Rattle.runs.specs.Laws.{Lawful}
-use Rattle.runs.specs.Scripts.{history}
+use Rattle.runs.specs.Scripts.{Replied, history}
 use Rattle.runs.specs.declared.run.Ended.{Ended}
 use Rattle.runs.specs.declared.script.Call.{Call}
 use Rattle.runs.specs.declared.script.Step.{Step}
@@ -110,6 +110,8 @@ pub record RanCalls {E : Type 0} (meaning : E → List ℕ) (rule : List ℕ →
   pub law : Lawful rule (history string n xs ys)
   -- what did not run is as it was
   pub rest : (j : ℕ) (d : Step L) → n ≤ j → getD ys j d ≡ getD xs j d
+  -- every call that ran is told what it asks
+  pub replies : (j : ℕ) (d : Step L) → j < n → Replied (getD xs j d .call) (getD ys j d .reply)
   -- every call still brings what it brought, but for what stands in its buffer
   pub asks : (j : ℕ) (d : Step L) → asked (getD ys j d .call) ≡ asked (getD xs j d .call)
   -- each nonce issued is the name and the count, which it raised by one; 5 came at the last count alone
@@ -126,6 +128,8 @@ pub record Runs {E : Type 0} (meaning : E → List ℕ) (rule : List ℕ → Lis
   pub law : Lawful rule (history string (r .ran) xs ys)
   -- what did not run is as it was
   pub rest : (j : ℕ) (d : Step L) → r .ran ≤ j → getD ys j d ≡ getD xs j d
+  -- every call that ran is told what it asks
+  pub replies : (j : ℕ) (d : Step L) → j < r .ran → Replied (getD xs j d .call) (getD ys j d .reply)
   -- every call still brings what it brought, but for what stands in its buffer
   pub asks : (j : ℕ) (d : Step L) → asked (getD ys j d .call) ≡ asked (getD xs j d .call)
   -- each nonce issued is the name and the count, which it raised by one; 5 came at the last count alone

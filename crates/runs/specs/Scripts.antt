@@ -1,4 +1,6 @@
 -- What a script's calls and replies say, and the history of a script that has run.
+use mathlib.Core.Path.{_≡_}
+use mathlib.Core.Logic.{_⊎_}
 use mathlib.Core.List.{List, [], _∷_}
 use Prim.Native.Nat.{ℕ, zero, suc}
 use Rattle.std.specs.Of.Vec.{vec-items}
@@ -51,6 +53,40 @@ answer-in (Refused e) = refused (number e)
 abbrev pub reply-to : Result ℕ Refusal → Reply
 reply-to (Ok n) = Length n
 reply-to (Err e) = Refused e
+
+-- what a reply tells
+pub data Kind : Type 0 where
+  not-run : Kind
+  nothing-to-tell : Kind
+  a-nonce : Kind
+  a-length : Kind
+  a-tag : Kind
+  a-refusal : Kind
+
+abbrev pub kind : Reply → Kind
+kind NotRun = not-run
+kind Done = nothing-to-tell
+kind (Nonce n) = a-nonce
+kind (Length n) = a-length
+kind (Tag t) = a-tag
+kind (Refused e) = a-refusal
+
+-- what a call that has run is told
+abbrev pub Replied : {L : Type 0} → Call L → Reply → Type 0
+Replied Issue r = (kind r ≡ a-nonce) ⊎ (answer-in r ≡ refused 5)
+Replied (StartSealing k i) r = kind r ≡ a-nonce
+Replied (StartOpening k n) r = kind r ≡ nothing-to-tell
+Replied (Add p) r = kind r ≡ nothing-to-tell
+Replied Close r = kind r ≡ nothing-to-tell
+Replied (Write p b) r = (kind r ≡ a-length) ⊎ (kind r ≡ a-refusal)
+Replied Finish r = kind r ≡ a-tag
+Replied (Open s b) r = (kind r ≡ a-length) ⊎ (kind r ≡ a-refusal)
+Replied BeginDigest r = kind r ≡ nothing-to-tell
+Replied (Feed p) r = kind r ≡ nothing-to-tell
+Replied (FeedList l) r = kind r ≡ nothing-to-tell
+Replied EndFeeding r = kind r ≡ nothing-to-tell
+Replied (Draw b) r = kind r ≡ nothing-to-tell
+Replied Release r = kind r ≡ nothing-to-tell
 
 -- what issue did
 abbrev pub issue-event : Reply → Event

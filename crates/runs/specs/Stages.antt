@@ -20,7 +20,7 @@ use Rattle.cipher.specs.declared.book.NonceBook.{NonceBook}
 use Rattle.digest.specs.Digests.{Fed as FedWith, Drawn as DrawnFrom}
 use Rattle.runs.specs.Allowed.{Point, free, sealing-adds, sealing-writes, opening-adds, opening-opens, digest-feeds, digest-draws, leads, Use, issues, takes, neither, use-of}
 use Rattle.runs.specs.Asks.{asked}
-use Rattle.runs.specs.Scripts.{event}
+use Rattle.runs.specs.Scripts.{Replied, event}
 use Rattle.runs.specs.Traces.{Model, next, Sound}
 use Rattle.runs.specs.declared.script.Reply.{Reply}
 use Rattle.runs.specs.declared.script.Reply.the-variants.{Nonce, Refused}
@@ -169,6 +169,7 @@ module _ {E : Type 0} (meaning : E → List ℕ) (rule : List ℕ → List ℕ) 
       pub sound : (M : Model) → Holds s M → Sound rule M (event string x y)
       pub holds : (M : Model) → Holds s M → Holds t (next M (event string x y))
       pub cleared : Cleared t
+      pub replied : Replied (x .call) (y .reply)
       pub asks : asked (y .call) ≡ asked (x .call)
       pub uses : use-of (y .call) ≡ use-of (x .call)
       pub nonce : y .nonce ≡ x .nonce

@@ -13,4 +13,4 @@ returns-in-Close g c =
     let rule = g .E·Engine .rule in
     ran-by meaning rule (g .L·ItemList .string) (AddingSealing (c .args .sealing)) (Writing (c .close .result)) (c .args .step .now) _ Close (c .in-Close .is) refl (λ M h. tt)
     (λ M h. after-close meaning rule M (standing meaning (c .args .sealing .adding .sponge)) (standing meaning (c .close .result .closed .sponge)) h (c .close .ensures))
-    tt (ap asked (c .in-Close .is)) (ap use-of (c .in-Close .is)) refl
+    tt refl (ap asked (c .in-Close .is)) (ap use-of (c .in-Close .is)) refl

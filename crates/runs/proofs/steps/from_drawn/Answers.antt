@@ -21,4 +21,4 @@ returns-in-Draw g c =
     ran-by meaning rule (g .L·ItemList .string) (Drawn (c .args .drawing)) (Drawn (c .draw-drawing .result)) (c .args .step .now) _ (Draw buffer) (c .in-Draw .is) refl
     (λ M h. rw filled (at-draw meaning rule M after (h .1) (made .next (M .so-far .input) (length (M .so-far .draw)) (h .0))))
     (λ M h. rw filled (after-draw meaning rule M (c .draw-drawing .result) after (at-draw meaning rule M after (h .1) (made .next (M .so-far .input) (length (M .so-far .draw)) (h .0))) (made .drawn (M .so-far .input) (length (M .so-far .draw)) (h .0))))
-    tt refl refl refl
+    tt refl refl refl refl

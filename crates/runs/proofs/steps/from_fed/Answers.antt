@@ -12,4 +12,4 @@ returns-in-EndFeeding g c =
     let rule = g .E·Engine .rule in
     ran-by meaning rule (g .L·ItemList .string) (Fed (c .args .feeding)) (Drawn (c .end-feeding .result)) (c .args .step .now) _ EndFeeding (c .in-EndFeeding .is) refl (λ M h. tt)
     (λ M h. after-end meaning rule M (c .end-feeding .result) (h .1) (c .end-feeding .ensures .fed (M .so-far .input) (h .0)))
-    tt (ap asked (c .in-EndFeeding .is)) (ap use-of (c .in-EndFeeding .is)) refl
+    tt refl (ap asked (c .in-EndFeeding .is)) (ap use-of (c .in-EndFeeding .is)) refl

@@ -5,7 +5,7 @@ use Rattle.std.specs.Of.Vec.{vec-items}
 use Rattle.cipher.specs.Openings.{Opens}
 use Rattle.runs.specs.Stages.{keyed}
 use Rattle.runs.specs.Traces.{Model}
-use Rattle.runs.proofs.Moves.{ran-by, at-open}
+use Rattle.runs.proofs.Moves.{ran-by, at-open, length-or-refusal}
 use Rattle.runs.specs.declared.script.Call.the-variants.{Open}
 use Rattle.runs.specs.declared.stage.Stage.the-variants.{Free, ReadyToOpen}
 use Rattle.runs.proofs.steps.from_ready_to_open.Needs as need
@@ -24,4 +24,4 @@ returns-in-Open g c =
     let opens : Opens rule (keyed meaning rule M) (vec-items sealed) (vec-items buffer) after r =
     rw (← c .as-slice .ensures .value, ← c .as-mut-slice .ensures .value) (c .open-engine .ensures .opens (keyed meaning rule M) h) in
     rw (filled, c .length-or-refusal-step .ensures) (at-open meaning rule M (vec-items sealed) (vec-items buffer) after r opens))
-    (λ M h. tt) (c .open-engine .ensures .cleared) refl refl refl
+    (λ M h. tt) (c .open-engine .ensures .cleared) (length-or-refusal meaning rule r (c .length-or-refusal-step .result) (c .length-or-refusal-step .ensures)) refl refl refl

@@ -11,7 +11,7 @@ use Rattle.runs.specs.Asks.{asked}
 use Rattle.runs.specs.History.{written}
 use Rattle.runs.specs.Scripts.{answer-in, reply-to}
 use Rattle.runs.specs.Traces.{Sound}
-use Rattle.runs.proofs.Moves.{ran-by, at-write, after-write, at-finish}
+use Rattle.runs.proofs.Moves.{ran-by, at-write, after-write, at-finish, length-or-refusal}
 use Rattle.runs.specs.declared.script.Reply.{Reply}
 use Rattle.runs.specs.declared.script.Call.the-variants.{Write, Finish}
 use Rattle.runs.specs.declared.stage.Stage.the-variants.{Free, Writing}
@@ -31,12 +31,12 @@ returns-in-Write g c =
     let wrote : Wrote meaning rule s (vec-items piece) (vec-items buffer) t r after =
     rw (← c .as-slice .ensures .value, ← c .as-mut-slice .ensures .value) (c .write-sealing .ensures) in
     ran-by meaning rule (g .L·ItemList .string) (Writing s) (Writing t) (c .args .step .now) _ (Write piece buffer) (c .in-Write .is) refl
-      (λ M h.
-        subst (λ (y : Reply). Sound rule M (written (vec-items piece) (vec-items buffer) (vec-items (refilled buffer after)) (answer-in y))) (sym (c .length-or-refusal-step .ensures))
-          (subst (λ (x : List ℕ). Sound rule M (written (vec-items piece) (vec-items buffer) x (answer-in (reply-to r)))) (sym filled)
-            (at-write meaning rule M s t (vec-items piece) (vec-items buffer) after r wrote)))
+    (λ M h.
+    subst (λ (y : Reply). Sound rule M (written (vec-items piece) (vec-items buffer) (vec-items (refilled buffer after)) (answer-in y))) (sym (c .length-or-refusal-step .ensures))
+    (subst (λ (x : List ℕ). Sound rule M (written (vec-items piece) (vec-items buffer) x (answer-in (reply-to r)))) (sym filled)
+    (at-write meaning rule M s t (vec-items piece) (vec-items buffer) after r wrote)))
     (λ M h. rw (filled, c .length-or-refusal-step .ensures) (after-write meaning rule M s t (vec-items piece) (vec-items buffer) after r h wrote))
-    tt refl refl refl
+    tt (length-or-refusal meaning rule r (c .length-or-refusal-step .result) (c .length-or-refusal-step .ensures)) refl refl refl
 
 pub returns-in-Finish : need.returns-in-Finish
 returns-in-Finish g c =
@@ -44,4 +44,4 @@ returns-in-Finish g c =
     let rule = g .E·Engine .rule in
     ran-by meaning rule (g .L·ItemList .string) (Writing (c .args .sealing)) (Free (c .finish-engine .result)) (c .args .step .now) _ Finish (c .in-Finish .is) refl
     (λ M h. at-finish meaning rule M (standing meaning (c .args .sealing .closed .sponge)) (c .finish-engine .last .tag) h (c .finish-engine .ensures .tag)) (λ M h. tt)
-    (c .finish-engine .ensures .cleared) (ap asked (c .in-Finish .is)) (ap use-of (c .in-Finish .is)) refl
+    (c .finish-engine .ensures .cleared) refl (ap asked (c .in-Finish .is)) (ap use-of (c .in-Finish .is)) refl
