@@ -30,6 +30,8 @@ use Rattle.runs.specs.Scripts.{kind, answer-in, Replied, buffer-in, event, cal
 use Rattle.runs.specs.Stages.{point-of, token, token-by, emptied, Spends, Readied, Takes, Lacks, Holds, Cleared, Ran, Took, Stuck, Advanced, NonceIssued, IssueRefused, IssueRan, IssueStep, EngineStep, SteppedBy, Stepped}
 use Rattle.runs.specs.Traces.{Model, begun, next, Happened, Spent, Sound, Fresh, AllRight}
 use Rattle.runs.proofs.Histories.{Alike, history-agrees, history-more, model-more, right-more, happened-more, happened-last}
+use Rattle.runs.proofs.Nonces.{no, Held, Nonces, here-or-before, nonces-quiet, nonces-issued, nonces-started}
+use Rattle.runs.proofs.Sorts.{is-issue, is-start, is-plain}
 use Rattle.runs.proofs.Lawful.{model-after, grown-nothing, happened-within, lawful}
 use Rattle.runs.specs.declared.script.Call.{Call}
 use Rattle.runs.specs.declared.script.Call.the-variants.{Issue, StartSealing, StartOpening, Add, Close, Write, Finish, Open, BeginDigest, Feed, FeedList, EndFeeding, Draw, Release}
@@ -38,22 +40,6 @@ use Rattle.runs.specs.declared.script.Reply.the-variants.{Nonce}
 use Rattle.runs.specs.declared.script.Step.{Step}
 use Rattle.runs.specs.declared.stage.Stage.{Stage}
 use Rattle.runs.specs.declared.stage.Stage.the-variants.{Free, AddingSealing, Writing, AddingOpening, ReadyToOpen, Fed, Drawn}
-
--- a step that issued the nonce n and holds it still
-abbrev pub Held : {L : Type 0} → Step L → IssuedNonce → Type 0
-Held x n = (use-of (x .call) ≡ issues) × (x .nonce ≡ Some n)
-
--- a nonce of the book's name and a count that has passed
-abbrev pub Counted : NonceBook → List ℕ → Type 0
-Counted b n = (c : ℕ) × (c < b .count) × (n ≡ nonce-of (b .name) c)
-
--- the nonces that the first i steps hold: issued by the book, unspent, and all different
-pub record Nonces {L : Type 0} (ys : List (Step L)) (i : ℕ) (h : List Event) (b : NonceBook) : Type 0 where
-  pub issued-before : (j : ℕ) (d : Step L) (n : IssuedNonce) → j < i → Held (getD ys j d) n → Happened (issued (issued-bytes n)) h
-  pub unspent : (j : ℕ) (d : Step L) (n : IssuedNonce) → j < i → Held (getD ys j d) n → Spent (issued-bytes n) h → ⊥
-  pub apart : (j j′ : ℕ) (d : Step L) (n n′ : IssuedNonce) → j < i → j′ < i → Held (getD ys j d) n → Held (getD ys j′ d) n′ → issued-bytes n ≡ issued-bytes n′ → j ≡ j′
-  pub counted : (j : ℕ) (d : Step L) (n : IssuedNonce) → j < i → Held (getD ys j d) n → Counted b (issued-bytes n)
-  pub spent-counted : (n : List ℕ) → Spent n h → Counted b n
 
 module _ {E : Type 0} (meaning : E → List ℕ) (rule : List ℕ → List ℕ) {L : Type 0} (string : L → List ℕ) where
   pub record Come (b₀ : NonceBook) (e₀ : E) (xs ys : List (Step L)) (i : ℕ) (s : Stage E) (b : NonceBook) : Type 0 where
@@ -105,9 +91,6 @@ module _ {E : Type 0} (meaning : E → List ℕ) (rule : List ℕ → List ℕ) 
   }
 
   -- ---- one call more
-
-  here-or-before : (j i : ℕ) → j < suc i → (j ≡ i) ⊎ (j < i)
-  here-or-before j i k = elim (cases-eq j i) [ inl e ↦ inl e | inr ne ↦ inr (omega arith) ]
 
   issued-in-more : (h : List Event) (e : Event) → issued-in (h ++ e ∷ []) ≡ issued-in h + nonces-of e
   issued-in-more [] e = omega arith
@@ -217,113 +200,6 @@ module _ {E : Type 0} (meaning : E → List ℕ) (rule : List ℕ → List ℕ) 
         asks-at j d (inr k) (inl same) = rw same (f .asks d)
         asks-at j d (inr k) (inr other) = ap (λ (x : Step L). asked (x .call)) (f .beyond j d (omega arith)) ∙ come .asks j d
 
-  -- ---- events by what a call has to do with nonces
-
-  no : {A : Type 0} → _≡_ {A = ℕ} 0 1 → A
-  no z = absurd (omega arith)
-
-  -- an event of the engine that has nothing to do with nonces
-  record Plain (e : Event) : Type 0 where
-    none-issued : nonces-of e ≡ 0
-    engine's : bookish e ≡ false
-    fresh : (past : List Event) → Fresh past e
-    no-start : (k n : List ℕ) → e ≡ sealing-started k n → ⊥
-    silent : (name : List ℕ) (count : ℕ) → IssueTold name count e
-
-  -- a call issues, or starts a sealing, or has nothing to do with nonces
-  sort : (c : Call L) → (c ≡ Issue) ⊎ (((k : Key) × ((i : ℕ) × (c ≡ StartSealing k i))) ⊎ ((use-of c ≡ neither) × ((after : List ℕ) (r : Reply) → Plain (call-event string c after r))))
-  sort Issue = inl refl
-  sort (StartSealing k i) = inr (inl (k, (i, refl)))
-  sort (StartOpening k n) = inr (inr (refl, λ after r. record { none-issued = refl; engine's = refl; fresh = λ p. tt; no-start = λ k n e. no cc; silent = λ name count. tt }))
-  sort (Add a) = inr (inr (refl, λ after r. record { none-issued = refl; engine's = refl; fresh = λ p. tt; no-start = λ k n e. no cc; silent = λ name count. tt }))
-  sort Close = inr (inr (refl, λ after r. record { none-issued = refl; engine's = refl; fresh = λ p. tt; no-start = λ k n e. no cc; silent = λ name count. tt }))
-  sort (Write m b) = inr (inr (refl, λ after r. record { none-issued = refl; engine's = refl; fresh = λ p. tt; no-start = λ k n e. no cc; silent = λ name count. tt }))
-  sort Finish = inr (inr (refl, λ after r. record { none-issued = refl; engine's = refl; fresh = λ p. tt; no-start = λ k n e. no cc; silent = λ name count. tt }))
-  sort (Open s b) = inr (inr (refl, λ after r. record { none-issued = refl; engine's = refl; fresh = λ p. tt; no-start = λ k n e. no cc; silent = λ name count. tt }))
-  sort BeginDigest = inr (inr (refl, λ after r. record { none-issued = refl; engine's = refl; fresh = λ p. tt; no-start = λ k n e. no cc; silent = λ name count. tt }))
-  sort (Feed f) = inr (inr (refl, λ after r. record { none-issued = refl; engine's = refl; fresh = λ p. tt; no-start = λ k n e. no cc; silent = λ name count. tt }))
-  sort (FeedList l) = inr (inr (refl, λ after r. record { none-issued = refl; engine's = refl; fresh = λ p. tt; no-start = λ k n e. no cc; silent = λ name count. tt }))
-  sort EndFeeding = inr (inr (refl, λ after r. record { none-issued = refl; engine's = refl; fresh = λ p. tt; no-start = λ k n e. no cc; silent = λ name count. tt }))
-  sort (Draw b) = inr (inr (refl, λ after r. record { none-issued = refl; engine's = refl; fresh = λ p. tt; no-start = λ k n e. no cc; silent = λ name count. tt }))
-  sort Release = inr (inr (refl, λ after r. record { none-issued = refl; engine's = refl; fresh = λ p. tt; no-start = λ k n e. no cc; silent = λ name count. tt }))
-
-  is-issue : (c : Call L) → use-of c ≡ issues → c ≡ Issue
-  is-issue c u = elim (sort c) [ inl e ↦ e | inr w ↦ elim w [ inl p ↦ (let e = p .1 .1 in no cc) | inr p ↦ (let e = p .0 in no cc) ] ]
-
-  is-start : (c : Call L) (j : ℕ) → use-of c ≡ takes j → (k : Key) × (c ≡ StartSealing k j)
-  is-start c j u = elim (sort c) [ inl e ↦ no cc | inr w ↦ elim w [ inl p ↦ (let e = p .1 .1 in let same : p .1 .0 ≡ j = cc in (p .0, e ∙ ap (StartSealing (p .0)) same)) | inr p ↦ (let e = p .0 in no cc) ] ]
-
-  is-plain : (c : Call L) (after : List ℕ) (r : Reply) → use-of c ≡ neither → Plain (call-event string c after r)
-  is-plain c after r u = elim (sort c) [ inl e ↦ no cc | inr w ↦ elim w [ inl p ↦ (let e = p .1 .1 in no cc) | inr p ↦ p .1 after r ] ]
-
-  -- a sealing starts only where the engine is free
-  free-only : (p q : Point) → only free sealing-adds p ≡ Some q → p ≡ free
-  free-only free q led = refl
-  free-only sealing-adds q led = no cc
-  free-only sealing-writes q led = no cc
-  free-only opening-adds q led = no cc
-  free-only opening-opens q led = no cc
-  free-only digest-feeds q led = no cc
-  free-only digest-draws q led = no cc
-
-  -- ---- nonces, one call on
-
-  counted-more : (b b′ : NonceBook) (n : List ℕ) → b′ .name ≡ b .name → b .count ≤ b′ .count → Counted b n → Counted b′ n
-  counted-more b b′ n name count c = (c .0, omega (arith, c .1), rw name (c .2))
-
-  spent-before : (n : List ℕ) (h : List Event) (e : Event) → ((k : List ℕ) → e ≡ sealing-started k n → ⊥) → Spent n (h ++ e ∷ []) → Spent n h
-  spent-before n h e other s = elim (happened-last (sealing-started (s .0) n) e h (s .1)) [ inl p ↦ (s .0, p) | inr same ↦ absurd (other (s .0) same) ]
-
-  module _ (ys ys′ : List (Step L)) (i : ℕ) (h : List Event) (e : Event) (b b′ : NonceBook) (old : Nonces ys i h b) (name : b′ .name ≡ b .name) (count : b .count ≤ b′ .count) where
-    -- a call after which each step holds no nonce that it did not hold, and that starts no sealing
-    nonces-quiet : ((j : ℕ) (d : Step L) (n : IssuedNonce) → j < i → Held (getD ys′ j d) n → Held (getD ys j d) n) → ((d : Step L) (n : IssuedNonce) → Held (getD ys′ i d) n → ⊥) → ((k n : List ℕ) → e ≡ sealing-started k n → ⊥) → Nonces ys′ (suc i) (h ++ e ∷ []) b′
-    nonces-quiet before none plain = record {
-      issued-before = λ j d n k held. elim (here-or-before j i k) [ inl same ↦ absurd (none d n (rw same at held)) | inr l ↦ happened-more _ e h (old .issued-before j d n l (before j d n l held)) ];
-      unspent = λ j d n k held s. elim (here-or-before j i k) [ inl same ↦ none d n (rw same at held) | inr l ↦ old .unspent j d n l (before j d n l held) (spent-before (issued-bytes n) h e (λ q. plain q (issued-bytes n)) s) ];
-      apart = λ j j′ d n n′ k k′ held held′ one. elim (here-or-before j i k) [ inl same ↦ absurd (none d n (rw same at held)) | inr l ↦ elim (here-or-before j′ i k′) [ inl same ↦ absurd (none d n′ (rw same at held′)) | inr l′ ↦ old .apart j j′ d n n′ l l′ (before j d n l held) (before j′ d n′ l′ held′) one ] ];
-      counted = λ j d n k held. elim (here-or-before j i k) [ inl same ↦ absurd (none d n (rw same at held)) | inr l ↦ counted-more b b′ (issued-bytes n) name count (old .counted j d n l (before j d n l held)) ];
-      spent-counted = λ n s. counted-more b b′ n name count (old .spent-counted n (spent-before n h e (λ q. plain q n) s));
-    }
-
-    -- step i issued the nonce n, and holds it
-    nonces-issued : (n : IssuedNonce) → e ≡ issued (issued-bytes n) → Issues b n b′ → ((j : ℕ) (d : Step L) (m : IssuedNonce) → j < i → Held (getD ys′ j d) m → Held (getD ys j d) m) → ((d : Step L) (m : IssuedNonce) → Held (getD ys′ i d) m → m ≡ n) → Nonces ys′ (suc i) (h ++ e ∷ []) b′
-    nonces-issued n is issue before here =
-        let no-start : (k m : List ℕ) → e ≡ sealing-started k m → ⊥ = λ k m same. no cc in
-        let new : (m : List ℕ) → m ≡ issued-bytes n → Counted b m → ⊥ = λ m same c.
-        let past : c .0 ≡ b .count = issue .sole (c .0) (omega (arith, c .1, issue .left)) (sym same ∙ c .2) in
-        omega (arith, c .1) in
-        record {
-          issued-before = λ j d m k held. elim (here-or-before j i k) [ inl at·here ↦ (let same : m ≡ n = here d m (rw at·here at held) in rw (same, is) (happened-within (issued (issued-bytes n)) h [])) | inr l ↦ happened-more _ e h (old .issued-before j d m l (before j d m l held)) ];
-          unspent = λ j d m k held s.
-              let s′ : Spent (issued-bytes m) h = spent-before (issued-bytes m) h e (λ q. no-start q (issued-bytes m)) s in
-              elim (here-or-before j i k) [ inl at·here ↦ new (issued-bytes m) (ap issued-bytes (here d m (rw at·here at held))) (old .spent-counted (issued-bytes m) s′) | inr l ↦ old .unspent j d m l (before j d m l held) s′ ];
-          apart = λ j j′ d m m′ k k′ held held′ one. elim (here-or-before j i k) [
-            | inl at·here ↦ elim (here-or-before j′ i k′) [ inl at·there ↦ at·here ∙ sym at·there | inr l′ ↦ absurd (new (issued-bytes m′) (sym one ∙ ap issued-bytes (here d m (rw at·here at held))) (old .counted j′ d m′ l′ (before j′ d m′ l′ held′))) ]
-            | inr l ↦ elim (here-or-before j′ i k′) [ inl at·there ↦ absurd (new (issued-bytes m) (one ∙ ap issued-bytes (here d m′ (rw at·there at held′))) (old .counted j d m l (before j d m l held))) | inr l′ ↦ old .apart j j′ d m m′ l l′ (before j d m l held) (before j′ d m′ l′ held′) one ]
-          ];
-          counted = λ j d m k held. elim (here-or-before j i k) [ inl at·here ↦ (b .count, omega (arith, issue .count), rw (issue .name) (ap issued-bytes (here d m (rw at·here at held)) ∙ issue .bytes)) | inr l ↦ counted-more b b′ (issued-bytes m) name count (old .counted j d m l (before j d m l held)) ];
-          spent-counted = λ m s. counted-more b b′ m name count (old .spent-counted m (spent-before m h e (λ q. no-start q m) s));
-        }
-
-    -- a sealing started with the nonce n of step t, which holds it no more
-    nonces-started : (k₀ : List ℕ) (n : IssuedNonce) (t : ℕ) (d₀ : Step L) → e ≡ sealing-started k₀ (issued-bytes n) → t < i → Held (getD ys t d₀) n → ((j : ℕ) (d : Step L) (m : IssuedNonce) → j < i → Held (getD ys′ j d) m → Held (getD ys j d) m × (j ≢ t)) → ((d : Step L) (m : IssuedNonce) → Held (getD ys′ i d) m → ⊥) → ((d : Step L) → getD ys t d ≡ getD ys t d₀) → Nonces ys′ (suc i) (h ++ e ∷ []) b′
-    nonces-started k₀ n t d₀ is earlier had before none default =
-        let spent-or-n : (m : List ℕ) → Spent m (h ++ e ∷ []) → Spent m h ⊎ (m ≡ issued-bytes n) = λ m s.
-        elim (happened-last (sealing-started (s .0) m) e h (s .1)) [ inl p ↦ inl (s .0, p) | inr same ↦ inr cc ] in
-        record {
-          issued-before = λ j d m k held. elim (here-or-before j i k) [ inl at·here ↦ absurd (none d m (rw at·here at held)) | inr l ↦ happened-more _ e h (old .issued-before j d m l (before j d m l held .0)) ];
-          unspent = λ j d m k held s. elim (here-or-before j i k) [
-            | inl at·here ↦ none d m (rw at·here at held)
-            | inr l ↦ elim (spent-or-n (issued-bytes m) s) [
-              | inl p ↦ old .unspent j d m l (before j d m l held .0) p
-              | inr same ↦ before j d m l held .1 (old .apart j t d m n l earlier (before j d m l held .0) (rw (default d) had) same)
-            ]
-          ];
-          apart = λ j j′ d m m′ k k′ held held′ one. elim (here-or-before j i k) [ inl at·here ↦ absurd (none d m (rw at·here at held)) | inr l ↦ elim (here-or-before j′ i k′) [ inl at·here ↦ absurd (none d m′ (rw at·here at held′)) | inr l′ ↦ old .apart j j′ d m m′ l l′ (before j d m l held .0) (before j′ d m′ l′ held′ .0) one ] ];
-          counted = λ j d m k held. elim (here-or-before j i k) [ inl at·here ↦ absurd (none d m (rw at·here at held)) | inr l ↦ counted-more b b′ (issued-bytes m) name count (old .counted j d m l (before j d m l held .0)) ];
-          spent-counted = λ m s. elim (spent-or-n m s) [ inl p ↦ counted-more b b′ m name count (old .spent-counted m p) | inr same ↦ counted-more b b′ m name count (rw same (old .counted t d₀ n earlier had)) ];
-        }
-
   -- ---- the calls
 
   module _ (b₀ : NonceBook) (e₀ : E) (xs ys : List (Step L)) (i : ℕ) (s : Stage E) (b : NonceBook) (come : Come b₀ e₀ xs ys i s b) (within : i < length xs) (d : Step L) where
@@ -353,7 +229,7 @@ module _ {E : Type 0} (meaning : E → List ℕ) (rule : List ℕ → List ℕ) 
       here d = getD-set-same ys i y d inside
 
       call-is : getD xs i d .call ≡ Issue
-      call-is = is-issue (getD xs i d .call) (rw (step-is d) at issue-call)
+      call-is = is-issue string (getD xs i d .call) (rw (step-is d) at issue-call)
 
       issue-event-is : y .call ≡ getD ys i d .call → event string (getD xs i d) (getD with-step i d) ≡ issue-event (y .reply)
       issue-event-is same = ap (λ (x : Step L). event string (getD xs i d) x) (here d) ∙ ap (λ (c : Call L). call-event string c (buffer-in (y .call)) (y .reply)) call-is
@@ -470,7 +346,7 @@ module _ {E : Type 0} (meaning : E → List ℕ) (rule : List ℕ → List ℕ) 
     after-plain : (t : Stage E) (y : Step L) → use-of (getD xs i d .call) ≡ neither → Ran meaning rule string s (getD ys i d) t y → Come b₀ e₀ xs (set ys i y) (suc i) t b
     after-plain t y plain ran =
         let x-ran : Ran meaning rule string s (getD xs i d) t y = subst (λ (x : Step L). Ran meaning rule string s x t y) (step-is d) ran in
-        let quiet = is-plain (getD xs i d .call) (buffer-in (y .call)) (y .reply) plain in
+        let quiet = is-plain string (getD xs i d .call) (buffer-in (y .call)) (y .reply) plain in
         let used : use-of (y .call) ≡ neither = x-ran .uses ∙ plain in
         engine-further ys t y refl (λ j d k. refl) (λ j d k. (refl, refl)) ran (quiet .engine's) (quiet .none-issued) (quiet .fresh past) (come .place .unspent) (come .slots-long)
         (ap (λ (p : Point). next-place record { point = p; count = come .place .count; unspent = come .place .unspent } (getD xs i d .call)) (come .point) ∙ rw plain refl)
@@ -498,7 +374,7 @@ module _ {E : Type 0} (meaning : E → List ℕ) (rule : List ℕ → List ℕ) 
         let untouched : (k : ℕ) (d : Step L) → i ≤ k → getD mid k d ≡ getD ys k d = λ k d′ l. other k d′ (omega arith) in
         let here : getD mid i d ≡ getD xs i d = untouched i d (omega arith) ∙ step-is d in
         let x-ran : Ran meaning rule string s (getD xs i d) t y = subst (λ (x : Step L). Ran meaning rule string s x t y) here ran in
-        let start-call = is-start (getD xs i d .call) j takes-j in
+        let start-call = is-start string (getD xs i d .call) j takes-j in
         let k₀ = key-bytes (start-call .0) in
         let e-is : event string (getD xs i d) y ≡ sealing-started k₀ (issued-bytes n) =
         ap (λ (c : Call L). call-event string c (buffer-in (y .call)) (y .reply)) (start-call .1) ∙ ap (λ (r : Reply). sealing-started k₀ (nonce-in r)) reply in
@@ -600,7 +476,7 @@ module _ {E : Type 0} (meaning : E → List ℕ) (rule : List ℕ → List ℕ) 
     -- where a sealing may not start
     nowhere-start : (j : ℕ) → use-of (getD xs i d .call) ≡ takes j → (point-of s ≡ free → getD (come .place .unspent) j false ≡ false) → next-place (come .place) (getD xs i d .call) ≡ None
     nowhere-start j takes-j unready =
-        let call = is-start (getD xs i d .call) j takes-j .1 in
+        let call = is-start string (getD xs i d .call) j takes-j .1 in
         ap (λ (c : Call L). next-place (come .place) c) call
         ∙ elim (is-free? (point-of s)) [
           | inl f ↦ rw (unready f) refl
@@ -669,7 +545,7 @@ module _ {E : Type 0} (meaning : E → List ℕ) (rule : List ℕ → List ℕ) 
               let here = emptied-here j (m .3) in
               elim (now .0 .why) [
                 | inl n ↦ (
-                    let call = is-start (getD ys i d .call) j same .1 in
+                    let call = is-start string (getD ys i d .call) j same .1 in
                     let led : leads (point-of s) (getD mid i d .call) ≡ Some sealing-adds = ap (λ (x : Step L). leads (point-of s) (x .call)) here ∙ ap (leads (point-of s)) call ∙ rw (m .2) refl in
                     no cc)
                 | inr lacks ↦ (
@@ -701,14 +577,16 @@ module _ {E : Type 0} (meaning : E → List ℕ) (rule : List ℕ → List ℕ) 
 
   pub ended : (b₀ : NonceBook) (e₀ : E) (xs ys : List (Step L)) (n : ℕ) (s : Stage E) (b : NonceBook) → Come b₀ e₀ xs ys n s b → how-far (calls xs) (start b₀) ≡ n → RanCalls meaning rule string b₀ e₀ xs s n b ys
   ended b₀ e₀ xs ys n s b come far = record {
-    far = sym far;
-    law = lawful rule (history string n xs ys) (come .right);
-    rest = come .rest;
-    asks = come .asks;
-    name = come .name;
-    replies = come .replies;
-    nonces = come .along;
-    count = come .issued-so-far;
+    outcome = record {
+      far = sym far;
+      law = lawful rule (history string n xs ys) (come .right);
+      rest = come .rest;
+      asks = come .asks;
+      name = come .name;
+      replies = come .replies;
+      nonces = come .along;
+      count = come .issued-so-far;
+    };
     engine = come .kept;
   }
 

@@ -102,8 +102,8 @@ Kept meaning (ReadyToOpen o) h e₀ = untaken h ≡ false
 Kept meaning (Fed f) h e₀ = untaken h ≡ false
 Kept meaning (Drawn d) h e₀ = untaken h ≡ false
 
--- the calls of a script xs, run on the book b and the engine e up to the n-th: the stage is s, the script ys, the book b′
-pub record RanCalls {E : Type 0} (meaning : E → List ℕ) (rule : List ℕ → List ℕ) {L : Type 0} (string : L → List ℕ) (b : NonceBook) (e : E) (xs : List (Step L)) (s : Stage E) (n : ℕ) (b′ : NonceBook) (ys : List (Step L)) : Type 0 where
+-- the first n calls of a script xs ran on the book b: the script is then ys, the book b′
+pub record Outcome (rule : List ℕ → List ℕ) {L : Type 0} (string : L → List ℕ) (b : NonceBook) (xs : List (Step L)) (n : ℕ) (b′ : NonceBook) (ys : List (Step L)) : Type 0 where
   -- an allowed list runs to its end, another to its first misplaced call
   pub far : n ≡ how-far (calls xs) (start b)
   -- the law of all that ran
@@ -118,23 +118,13 @@ pub record RanCalls {E : Type 0} (meaning : E → List ℕ) (rule : List ℕ →
   pub nonces : IssuesAlong (b .name) (b .count) (history string n xs ys)
   pub name : b′ .name ≡ b .name
   pub count : b′ .count ≡ b .count + issued-in (history string n xs ys)
+
+-- the same of a run on the engine e that stands in the stage s
+pub record RanCalls {E : Type 0} (meaning : E → List ℕ) (rule : List ℕ → List ℕ) {L : Type 0} (string : L → List ℕ) (b : NonceBook) (e : E) (xs : List (Step L)) (s : Stage E) (n : ℕ) (b′ : NonceBook) (ys : List (Step L)) : Type 0 where
+  pub outcome : Outcome rule string b xs n b′ ys
   pub engine : Kept meaning s (history string n xs ys) e
 
--- a script xs, run on the book b and the engine e, became ys; the book became b′
+-- the same of a run on the engine e that has ended: an engine that was taken comes back cleared, one that never was is as it was
 pub record Runs {E : Type 0} (meaning : E → List ℕ) (rule : List ℕ → List ℕ) {L : Type 0} (string : L → List ℕ) (b : NonceBook) (e : E) (xs : List (Step L)) (r : Ended E) (b′ : NonceBook) (ys : List (Step L)) : Type 0 where
-  -- an allowed list runs to its end, another to its first misplaced call
-  pub far : r .ran ≡ how-far (calls xs) (start b)
-  -- the law of all that ran
-  pub law : Lawful rule (history string (r .ran) xs ys)
-  -- what did not run is as it was
-  pub rest : (j : ℕ) (d : Step L) → r .ran ≤ j → getD ys j d ≡ getD xs j d
-  -- every call that ran is told what it asks
-  pub replies : (j : ℕ) (d : Step L) → j < r .ran → Replied (getD xs j d .call) (getD ys j d .reply)
-  -- every call still brings what it brought, but for what stands in its buffer
-  pub asks : (j : ℕ) (d : Step L) → asked (getD ys j d .call) ≡ asked (getD xs j d .call)
-  -- each nonce issued is the name and the count, which it raised by one; 5 came at the last count alone
-  pub nonces : IssuesAlong (b .name) (b .count) (history string (r .ran) xs ys)
-  pub name : b′ .name ≡ b .name
-  pub count : b′ .count ≡ b .count + issued-in (history string (r .ran) xs ys)
-  -- an engine that was taken comes back cleared, one that never was is as it was
+  pub outcome : Outcome rule string b xs (r .ran) b′ ys
   pub engine : When (untaken (history string (r .ran) xs ys)) (r .engine ≡ e) (meaning (r .engine) ≡ zeros)
