@@ -1,4 +1,6 @@
 // The console: a script of calls on standard input, what each is answered on standard output.
+#![tactic(auto)]
+
 mod answers;
 mod calls;
 mod console;

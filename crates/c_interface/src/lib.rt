@@ -1,4 +1,6 @@
 // The library as C calls it: byte strings in and out, and numbers for answers.
+#![tactic(auto)]
+
 pub mod hash;
 pub mod open;
 pub mod permute;

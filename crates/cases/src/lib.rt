@@ -1,4 +1,6 @@
 // Worked cases and published answers: the definitions themselves are held to them, and not only the code.
+#![tactic(auto)]
+
 ghost use Rattle.std.specs.Prelude.{◌≡◌};
 ghost use Rattle.cases.specs.Published.{Published};
 ghost use Rattle.cases.specs.Table.{Table, ShareTerms};

@@ -1,4 +1,6 @@
 // Sealed boxes over any engine: a message and associated data under a key and a nonce of a book.
+#![tactic(auto)]
+
 mod adding;
 pub mod book;
 mod closed;

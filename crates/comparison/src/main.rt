@@ -1,5 +1,7 @@
 // The library on its three engines against the reference, on cases of many lengths, keys, cuts and damages. Prints what
 // agrees, and what does not.
+#![tactic(auto)]
+
 
 mod case;
 mod controls;

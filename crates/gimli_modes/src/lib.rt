@@ -1,4 +1,6 @@
 // Gimli-24-Hash and Gimli-24-Cipher: what digests and boxes are over the Gimli engines.
+#![tactic(auto)]
+
 ghost use Rattle.std.specs.Prelude.{◌≡◌};
 ghost use Rattle.gimli_modes.specs.Standard.{Standard};
 

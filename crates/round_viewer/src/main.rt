@@ -1,4 +1,6 @@
 // The round viewer: a request on standard input, the state after its rounds on standard output.
+#![tactic(auto)]
+
 ghost use Rattle.std.specs.Prelude.{◌≤◌, take, IfOk};
 ghost use Rattle.round_viewer.specs.Lines.{text};
 ghost use Rattle.round_viewer.specs.Views.{Views};

@@ -1,4 +1,6 @@
 // Lists of calls, run on one nonce book and one engine, and the law that every run keeps.
+#![tactic(auto)]
+
 pub mod both;
 pub mod list;
 pub mod run;
