@@ -16,7 +16,7 @@ use std::alloc::{AllocError, Global};
 fn run_on<E: Engine>(mut book: NonceBook, engine: E, mut steps: Vec<Step<Lists>>) -> Screen
 where
     E: Drop,
-    ensures { ShowsRun rule book steps.items result }
+    ensures { ShowsRun E.rule book steps.items result }
 {
     let Ended { engine: _, ran } = run(&mut book, engine, steps.as_mut_slice());
     Screen::Ran(steps, ran)

@@ -20,8 +20,8 @@ pub(crate) struct Adding<E> {
 impl<E: Engine> Adding<E> {
     // Loads a cleared engine with the nonce, then the key, and permutes it.
     pub(crate) fn start(engine: E, key: &Key, nonce: &[u8; NONCE_LEN]) -> Adding<E>
-        ensures state { standing meaning result.sponge ≡ at (rule (nonce.now ++ key_bytes key.now)) 0 }
-        ensures boxes { Boxes rule (key_bytes key.now) nonce.now }
+        ensures state { standing E.meaning result.sponge ≡ at (E.rule (nonce.now ++ key_bytes key.now)) 0 }
+        ensures boxes { Boxes E.rule (key_bytes key.now) nonce.now }
     {
         let Sponge { mut engine, place } = Sponge::new(engine);
         load(&mut engine, key, nonce);
@@ -33,7 +33,7 @@ impl<E: Engine> Adding<E> {
 
     // Takes in the next piece of associated data.
     pub(crate) fn add(self, piece: &[u8]) -> Adding<E>
-        ensures { Absorbs rule (standing meaning self.sponge) piece.now (standing meaning result.sponge) }
+        ensures { Absorbs E.rule (standing E.meaning self.sponge) piece.now (standing E.meaning result.sponge) }
     {
         let Adding { sponge } = self;
         Adding {
@@ -43,7 +43,7 @@ impl<E: Engine> Adding<E> {
 
     // Ends the associated data.
     pub(crate) fn close(self) -> Closed<E>
-        ensures { Pads rule (standing meaning self.sponge) (standing meaning result.sponge) }
+        ensures { Pads E.rule (standing E.meaning self.sponge) (standing E.meaning result.sponge) }
     {
         let Adding { sponge } = self;
         Closed {
@@ -53,7 +53,7 @@ impl<E: Engine> Adding<E> {
 
     // The engine, cleared.
     pub(crate) fn release(self) -> E
-        ensures { meaning result ≡ zeros }
+        ensures { E.meaning result ≡ zeros }
     {
         let Adding { sponge } = self;
         sponge.into_engine()
@@ -62,9 +62,9 @@ impl<E: Engine> Adding<E> {
 
 // Loads an engine of zeros with a nonce, then a key.
 fn load<E: Engine>(engine: &mut E, key: &Key, nonce: &[u8; NONCE_LEN])
-    requires { meaning engine.old ≡ zeros }
-    ensures state { meaning engine.new ≡ nonce.now ++ key_bytes key.now }
-    ensures boxes { Boxes rule (key_bytes key.now) nonce.now }
+    requires { E.meaning engine.old ≡ zeros }
+    ensures state { E.meaning engine.new ≡ nonce.now ++ key_bytes key.now }
+    ensures boxes { Boxes E.rule (key_bytes key.now) nonce.now }
 {
     load_from(engine, 0, nonce);
     load_from(engine, NONCE_LEN, key.bytes());
@@ -73,7 +73,7 @@ fn load<E: Engine>(engine: &mut E, key: &Key, nonce: &[u8; NONCE_LEN])
 // Changes the bytes from a place on by xor with a string's.
 fn load_from<E: Engine>(engine: &mut E, place: usize, string: &[u8])
     requires { place + length string.now ≤ width }
-    ensures { (s front : List ℕ) → length front ≡ place → meaning engine.old ≡ mixed s front → meaning engine.new ≡ mixed s (front ++ string.now) }
+    ensures { (s front : List ℕ) → length front ≡ place → E.meaning engine.old ≡ mixed s front → E.meaning engine.new ≡ mixed s (front ++ string.now) }
 {
     for (i, b) in string.iter().enumerate() {
         let _ = engine.xor_byte(place + i, *b);

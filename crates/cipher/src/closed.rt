@@ -18,7 +18,7 @@ impl<E: Engine> Closed<E> {
     // Ciphers a piece into the first bytes of a buffer.
     pub(crate) fn cipher(self, piece: &[u8], buffer: &mut [u8]) -> Closed<E>
         requires { length piece.now ≤ length buffer.old }
-        ensures { Ciphers rule (standing meaning self.sponge) piece.now buffer.old buffer.new (standing meaning result.sponge) }
+        ensures { Ciphers E.rule (standing E.meaning self.sponge) piece.now buffer.old buffer.new (standing E.meaning result.sponge) }
     {
         let Closed { sponge } = self;
         let Sponge { mut engine, place } = sponge;
@@ -31,7 +31,7 @@ impl<E: Engine> Closed<E> {
     // Deciphers a text into the first bytes of a buffer.
     pub(crate) fn decipher(self, text: &[u8], buffer: &mut [u8]) -> Closed<E>
         requires { length text.now ≤ length buffer.old }
-        ensures { Deciphers rule (standing meaning self.sponge) text.now buffer.old buffer.new (standing meaning result.sponge) }
+        ensures { Deciphers E.rule (standing E.meaning self.sponge) text.now buffer.old buffer.new (standing E.meaning result.sponge) }
     {
         let Closed { sponge } = self;
         let Sponge { mut engine, place } = sponge;
@@ -43,8 +43,8 @@ impl<E: Engine> Closed<E> {
 
     // Ends the message. The engine comes back cleared.
     pub(crate) fn finish(self, tag: &mut [u8; TAG_LEN]) -> E
-        ensures tag { Tags rule (standing meaning self.sponge) tag.new }
-        ensures cleared { meaning result ≡ zeros }
+        ensures tag { Tags E.rule (standing E.meaning self.sponge) tag.new }
+        ensures cleared { E.meaning result ≡ zeros }
     {
         let Closed { sponge } = self;
         sponge.pad().squeeze(tag).into_engine()
@@ -52,7 +52,7 @@ impl<E: Engine> Closed<E> {
 
     // The engine, cleared.
     pub(crate) fn release(self) -> E
-        ensures { meaning result ≡ zeros }
+        ensures { E.meaning result ≡ zeros }
     {
         let Closed { sponge } = self;
         sponge.into_engine()
@@ -68,7 +68,7 @@ fn cipher_bytes<E: Engine>(
     buffer: &mut [u8],
 ) -> usize
     requires { length piece.now ≤ length buffer.old }
-    ensures { Ciphers rule (at (meaning engine.old) (place % rate)) piece.now buffer.old buffer.new (at (meaning engine.new) (result % rate)) }
+    ensures { Ciphers E.rule (at (E.meaning engine.old) (place % rate)) piece.now buffer.old buffer.new (at (E.meaning engine.new) (result % rate)) }
 {
     for (i, b) in piece.iter().enumerate() {
         xor_in(engine, place, *b);
@@ -85,7 +85,7 @@ fn decipher_bytes<E: Engine>(
     buffer: &mut [u8],
 ) -> usize
     requires { length text.now ≤ length buffer.old }
-    ensures { Deciphers rule (at (meaning engine.old) (place % rate)) text.now buffer.old buffer.new (at (meaning engine.new) (result % rate)) }
+    ensures { Deciphers E.rule (at (E.meaning engine.old) (place % rate)) text.now buffer.old buffer.new (at (E.meaning engine.new) (result % rate)) }
 {
     for (i, c) in text.iter().enumerate() {
         let b = byte_at(engine, place) ^ *c;

@@ -22,7 +22,7 @@ pub struct Opening<E> {
 impl<E: Engine> Opening<E> {
     // Starts an opening, whatever the engine meant.
     pub fn start(engine: E, key: &Key, nonce: &BoxNonce) -> Opening<E>
-        ensures { standing meaning result.adding.sponge ≡ at (rule (box_nonce_bytes nonce.now ++ key_bytes key.now)) 0 }
+        ensures { standing E.meaning result.adding.sponge ≡ at (E.rule (box_nonce_bytes nonce.now ++ key_bytes key.now)) 0 }
     {
         Opening {
             adding: Adding::start(engine, key, nonce.bytes()),
@@ -31,7 +31,7 @@ impl<E: Engine> Opening<E> {
 
     // Adds the next piece of associated data.
     pub fn add(self, piece: &[u8]) -> Opening<E>
-        ensures { Absorbs rule (standing meaning self.adding.sponge) piece.now (standing meaning result.adding.sponge) }
+        ensures { Absorbs E.rule (standing E.meaning self.adding.sponge) piece.now (standing E.meaning result.adding.sponge) }
     {
         let Opening { adding } = self;
         Opening {
@@ -41,7 +41,7 @@ impl<E: Engine> Opening<E> {
 
     // Ends the associated data.
     pub fn close(self) -> ClosedOpening<E>
-        ensures { Pads rule (standing meaning self.adding.sponge) (standing meaning result.closed.sponge) }
+        ensures { Pads E.rule (standing E.meaning self.adding.sponge) (standing E.meaning result.closed.sponge) }
     {
         let Opening { adding } = self;
         ClosedOpening {
@@ -51,7 +51,7 @@ impl<E: Engine> Opening<E> {
 
     // Gives the opening up. The engine comes back cleared.
     pub fn release(self) -> E
-        ensures { meaning result ≡ zeros }
+        ensures { E.meaning result ≡ zeros }
     {
         let Opening { adding } = self;
         adding.release()
@@ -66,8 +66,8 @@ impl<E: Engine> ClosedOpening<E> {
     // Opens a box into the first bytes of a buffer, and answers the message's length. The engine comes back cleared.
     // Of a box that is refused for its tag, zeros stand where its message would.
     pub fn open(self, sealed: &[u8], buffer: &mut [u8]) -> (E, Result<usize, Refusal>)
-        ensures opens { (s : List ℕ) → standing meaning self.closed.sponge ≡ at s 0 → Opens rule s sealed.now buffer.old buffer.new result.1 }
-        ensures cleared { meaning result.0 ≡ zeros }
+        ensures opens { (s : List ℕ) → standing E.meaning self.closed.sponge ≡ at s 0 → Opens E.rule s sealed.now buffer.old buffer.new result.1 }
+        ensures cleared { E.meaning result.0 ≡ zeros }
     {
         let ClosedOpening { closed } = self;
         open_box(closed, sealed, buffer)
@@ -75,7 +75,7 @@ impl<E: Engine> ClosedOpening<E> {
 
     // Gives the opening up. The engine comes back cleared.
     pub fn release(self) -> E
-        ensures { meaning result ≡ zeros }
+        ensures { E.meaning result ≡ zeros }
     {
         let ClosedOpening { closed } = self;
         closed.release()

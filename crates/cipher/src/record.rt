@@ -23,8 +23,8 @@ pub fn seal_message<E: Engine>(
     buffer: &mut [u8],
     tag: &mut [u8; TAG_LEN],
 ) -> (E, Result<usize, Refusal>)
-    ensures seals { Sealed rule (key_bytes key.now) (issued_bytes nonce) ad.now message.now buffer.old buffer.new tag.old tag.new result.1 }
-    ensures cleared { meaning result.0 ≡ zeros }
+    ensures seals { Sealed E.rule (key_bytes key.now) (issued_bytes nonce) ad.now message.now buffer.old buffer.new tag.old tag.new result.1 }
+    ensures cleared { E.meaning result.0 ≡ zeros }
 {
     let (closed, answer) = closed_sealing(engine, key, nonce, ad).write(message, buffer);
     match answer {
@@ -44,9 +44,9 @@ pub fn tag_two<E: Engine>(
     second: &[u8],
     second_tag: &mut [u8; TAG_LEN],
 ) -> E
-    ensures first { first_tag.new ≡ sealed_box rule (key_bytes key.now) (issued_bytes first_nonce) first.now [] }
-    ensures second { second_tag.new ≡ sealed_box rule (key_bytes key.now) (issued_bytes second_nonce) second.now [] }
-    ensures cleared { meaning result ≡ zeros }
+    ensures first { first_tag.new ≡ sealed_box E.rule (key_bytes key.now) (issued_bytes first_nonce) first.now [] }
+    ensures second { second_tag.new ≡ sealed_box E.rule (key_bytes key.now) (issued_bytes second_nonce) second.now [] }
+    ensures cleared { E.meaning result ≡ zeros }
 {
     let engine = tag_data(engine, key, first_nonce, first, first_tag);
     tag_data(engine, key, second_nonce, second, second_tag)
@@ -60,8 +60,8 @@ fn tag_data<E: Engine>(
     ad: &[u8],
     tag: &mut [u8; TAG_LEN],
 ) -> E
-    ensures tag { tag.new ≡ sealed_box rule (key_bytes key.now) (issued_bytes nonce) ad.now [] }
-    ensures cleared { meaning result ≡ zeros }
+    ensures tag { tag.new ≡ sealed_box E.rule (key_bytes key.now) (issued_bytes nonce) ad.now [] }
+    ensures cleared { E.meaning result ≡ zeros }
 {
     closed_sealing(engine, key, nonce, ad).finish(tag)
 }
@@ -73,7 +73,7 @@ fn closed_sealing<E: Engine>(
     nonce: IssuedNonce,
     ad: &[u8],
 ) -> ClosedSealing<E>
-    ensures { standing meaning result.closed.sponge ≡ at (absorbed rule (rule (issued_bytes nonce ++ key_bytes key.now)) ad.now) 0 }
+    ensures { standing E.meaning result.closed.sponge ≡ at (absorbed E.rule (E.rule (issued_bytes nonce ++ key_bytes key.now)) ad.now) 0 }
 {
     Sealing::start(engine, key, nonce).add(ad).close()
 }

@@ -27,8 +27,8 @@ pub struct Sealing<E> {
 impl<E: Engine> Sealing<E> {
     // Starts a sealing, whatever the engine meant. The nonce is spent.
     pub fn start(engine: E, key: &Key, nonce: IssuedNonce) -> Sealing<E>
-        ensures state { standing meaning result.adding.sponge ≡ at (rule (issued_bytes nonce ++ key_bytes key.now)) 0 }
-        ensures boxes { Boxes rule (key_bytes key.now) (issued_bytes nonce) }
+        ensures state { standing E.meaning result.adding.sponge ≡ at (E.rule (issued_bytes nonce ++ key_bytes key.now)) 0 }
+        ensures boxes { Boxes E.rule (key_bytes key.now) (issued_bytes nonce) }
     {
         Sealing {
             adding: Adding::start(engine, key, nonce.bytes()),
@@ -37,7 +37,7 @@ impl<E: Engine> Sealing<E> {
 
     // Adds the next piece of associated data.
     pub fn add(self, piece: &[u8]) -> Sealing<E>
-        ensures { Absorbs rule (standing meaning self.adding.sponge) piece.now (standing meaning result.adding.sponge) }
+        ensures { Absorbs E.rule (standing E.meaning self.adding.sponge) piece.now (standing E.meaning result.adding.sponge) }
     {
         let Sealing { adding } = self;
         Sealing {
@@ -47,7 +47,7 @@ impl<E: Engine> Sealing<E> {
 
     // Ends the associated data.
     pub fn close(self) -> ClosedSealing<E>
-        ensures { Pads rule (standing meaning self.adding.sponge) (standing meaning result.closed.sponge) }
+        ensures { Pads E.rule (standing E.meaning self.adding.sponge) (standing E.meaning result.closed.sponge) }
     {
         let Sealing { adding } = self;
         ClosedSealing {
@@ -57,7 +57,7 @@ impl<E: Engine> Sealing<E> {
 
     // Gives the sealing up. The engine comes back cleared.
     pub fn release(self) -> E
-        ensures { meaning result ≡ zeros }
+        ensures { E.meaning result ≡ zeros }
     {
         let Sealing { adding } = self;
         adding.release()
@@ -76,7 +76,7 @@ impl<E: Engine> ClosedSealing<E> {
         piece: &[u8],
         buffer: &mut [u8],
     ) -> (ClosedSealing<E>, Result<usize, Refusal>)
-        ensures { Wrote meaning rule self piece.now buffer.old result.0 result.1 buffer.new }
+        ensures { Wrote E.meaning E.rule self piece.now buffer.old result.0 result.1 buffer.new }
     {
         if buffer.len() < piece.len() {
             return (self, Err(Refusal::BufferTooShort));
@@ -88,8 +88,8 @@ impl<E: Engine> ClosedSealing<E> {
 
     // Ends the message with its tag. The engine comes back cleared.
     pub fn finish(self, tag: &mut [u8; TAG_LEN]) -> E
-        ensures tag { Tags rule (standing meaning self.closed.sponge) tag.new }
-        ensures cleared { meaning result ≡ zeros }
+        ensures tag { Tags E.rule (standing E.meaning self.closed.sponge) tag.new }
+        ensures cleared { E.meaning result ≡ zeros }
     {
         let ClosedSealing { closed } = self;
         closed.finish(tag)
@@ -97,7 +97,7 @@ impl<E: Engine> ClosedSealing<E> {
 
     // Gives the sealing up. The engine comes back cleared.
     pub fn release(self) -> E
-        ensures { meaning result ≡ zeros }
+        ensures { E.meaning result ≡ zeros }
     {
         let ClosedSealing { closed } = self;
         closed.release()

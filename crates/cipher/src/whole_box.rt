@@ -15,8 +15,8 @@ pub(crate) fn open_box<E: Engine>(
     sealed: &[u8],
     buffer: &mut [u8],
 ) -> (E, Result<usize, Refusal>)
-    ensures opens { (s : List ℕ) → standing meaning closed.sponge ≡ at s 0 → Opens rule s sealed.now buffer.old buffer.new result.1 }
-    ensures cleared { meaning result.0 ≡ zeros }
+    ensures opens { (s : List ℕ) → standing E.meaning closed.sponge ≡ at s 0 → Opens E.rule s sealed.now buffer.old buffer.new result.1 }
+    ensures cleared { E.meaning result.0 ≡ zeros }
 {
     if sealed.len() < TAG_LEN {
         return (closed.release(), Err(Refusal::BoxTooShort));

@@ -15,11 +15,11 @@ pub struct Drawing<E> {
 impl<E: Engine> Drawing<E> {
     // Fills a buffer with the next bytes of the long output.
     pub fn draw(self, out: &mut [u8]) -> Drawing<E>
-        ensures bytes { out.new ≡ squeeze_bytes rule (length out.new) (standing meaning self.sponge) }
-        ensures state { standing meaning result.sponge ≡ squeeze_state rule (length out.new) (standing meaning self.sponge) }
-        ensures first { (m : List ℕ) → Drawn meaning rule self m 0 → out.new ≡ output rule m (length out.new) }
-        ensures next { (m : List ℕ) (n : ℕ) → Drawn meaning rule self m n → output rule m (n + length out.new) ≡ output rule m n ++ out.new }
-        ensures drawn { (m : List ℕ) (n : ℕ) → Drawn meaning rule self m n → Drawn meaning rule result m (n + length out.new) }
+        ensures bytes { out.new ≡ squeeze_bytes E.rule (length out.new) (standing E.meaning self.sponge) }
+        ensures state { standing E.meaning result.sponge ≡ squeeze_state E.rule (length out.new) (standing E.meaning self.sponge) }
+        ensures first { (m : List ℕ) → Drawn E.meaning E.rule self m 0 → out.new ≡ output E.rule m (length out.new) }
+        ensures next { (m : List ℕ) (n : ℕ) → Drawn E.meaning E.rule self m n → output E.rule m (n + length out.new) ≡ output E.rule m n ++ out.new }
+        ensures drawn { (m : List ℕ) (n : ℕ) → Drawn E.meaning E.rule self m n → Drawn E.meaning E.rule result m (n + length out.new) }
     {
         let Drawing { sponge } = self;
         Drawing {
@@ -29,7 +29,7 @@ impl<E: Engine> Drawing<E> {
 
     // Gives the digest up. The engine comes back cleared.
     pub fn release(self) -> E
-        ensures { meaning result ≡ zeros }
+        ensures { E.meaning result ≡ zeros }
     {
         let Drawing { sponge } = self;
         sponge.into_engine()

@@ -21,7 +21,7 @@ pub struct Feeding<E> {
 impl<E: Engine> Feeding<E> {
     // Begins a digest, whatever the engine meant.
     pub fn begin(engine: E) -> Feeding<E>
-        ensures { Fed meaning rule result [] }
+        ensures { Fed E.meaning E.rule result [] }
     {
         Feeding {
             sponge: Sponge::new(engine),
@@ -30,8 +30,8 @@ impl<E: Engine> Feeding<E> {
 
     // Feeds the next piece of the string.
     pub fn feed(self, piece: &[u8]) -> Feeding<E>
-        ensures state { standing meaning result.sponge ≡ absorb_piece rule (standing meaning self.sponge) piece.now }
-        ensures fed { (m : List ℕ) → Fed meaning rule self m → Fed meaning rule result (m ++ piece.now) }
+        ensures state { standing E.meaning result.sponge ≡ absorb_piece E.rule (standing E.meaning self.sponge) piece.now }
+        ensures fed { (m : List ℕ) → Fed E.meaning E.rule self m → Fed E.meaning E.rule result (m ++ piece.now) }
     {
         let Feeding { sponge } = self;
         Feeding {
@@ -41,9 +41,9 @@ impl<E: Engine> Feeding<E> {
 
     // Feeds the strings of items of one kind, one after another.
     pub fn feed_list<I: Item>(self, items: &[I]) -> Feeding<E>
-        ensures state { standing meaning result.sponge ≡ absorb_piece rule (standing meaning self.sponge) (flat_map bytes items.now) }
-        ensures fed { (m : List ℕ) → Fed meaning rule self m → Fed meaning rule result (m ++ flat_map bytes items.now) }
-        ensures told { Told bytes items.now }
+        ensures state { standing E.meaning result.sponge ≡ absorb_piece E.rule (standing E.meaning self.sponge) (flat_map I.bytes items.now) }
+        ensures fed { (m : List ℕ) → Fed E.meaning E.rule self m → Fed E.meaning E.rule result (m ++ flat_map I.bytes items.now) }
+        ensures told { Told I.bytes items.now }
     {
         let Feeding { sponge } = self;
         let Sponge { mut engine, place } = sponge;
@@ -55,8 +55,8 @@ impl<E: Engine> Feeding<E> {
 
     // Ends the string.
     pub fn end_feeding(self) -> Drawing<E>
-        ensures state { standing meaning result.sponge ≡ padded rule (standing meaning self.sponge) }
-        ensures fed { (m : List ℕ) → Fed meaning rule self m → Drawn meaning rule result m 0 }
+        ensures state { standing E.meaning result.sponge ≡ padded E.rule (standing E.meaning self.sponge) }
+        ensures fed { (m : List ℕ) → Fed E.meaning E.rule self m → Drawn E.meaning E.rule result m 0 }
     {
         let Feeding { sponge } = self;
         Drawing {
@@ -66,7 +66,7 @@ impl<E: Engine> Feeding<E> {
 
     // Gives the digest up. The engine comes back cleared.
     pub fn release(self) -> E
-        ensures { meaning result ≡ zeros }
+        ensures { E.meaning result ≡ zeros }
     {
         let Feeding { sponge } = self;
         sponge.into_engine()
@@ -76,8 +76,8 @@ impl<E: Engine> Feeding<E> {
 // Below the engine is lent, and not moved at each byte. Each takes the place in the block, and answers the next one.
 
 fn feed_items<E: Engine, I: Item>(engine: &mut E, mut place: usize, items: &[I]) -> usize
-    ensures absorbs { Absorbs rule (at (meaning engine.old) (place % rate)) (flat_map bytes items.now) (at (meaning engine.new) (result % rate)) }
-    ensures told { Told bytes items.now }
+    ensures absorbs { Absorbs E.rule (at (E.meaning engine.old) (place % rate)) (flat_map I.bytes items.now) (at (E.meaning engine.new) (result % rate)) }
+    ensures told { Told I.bytes items.now }
 {
     for i in 0..items.len() {
         place = feed_item(engine, place, &items[i]);
@@ -86,7 +86,7 @@ fn feed_items<E: Engine, I: Item>(engine: &mut E, mut place: usize, items: &[I])
 }
 
 fn feed_item<E: Engine, I: Item>(engine: &mut E, mut place: usize, item: &I) -> usize
-    ensures { at (meaning engine.new) (result % rate) ≡ absorb_piece rule (at (meaning engine.old) (place % rate)) (bytes item.now) }
+    ensures { at (E.meaning engine.new) (result % rate) ≡ absorb_piece E.rule (at (E.meaning engine.old) (place % rate)) (I.bytes item.now) }
 {
     for i in 0..item.len() {
         let Some(b) = item.byte(i) else { unreachable() };

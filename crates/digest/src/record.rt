@@ -11,8 +11,8 @@ pub const HASH_LEN: usize = 32;
 
 // Fills a buffer with the long output of a string. The engine comes back cleared.
 pub fn digest_string<E: Engine>(engine: E, string: &[u8], out: &mut [u8]) -> E
-    ensures bytes { out.new ≡ output rule string.now (length out.new) }
-    ensures cleared { meaning result ≡ zeros }
+    ensures bytes { out.new ≡ output E.rule string.now (length out.new) }
+    ensures cleared { E.meaning result ≡ zeros }
 {
     let drawing = Feeding::begin(engine).feed(string).end_feeding();
     drawing.draw(out).release()
@@ -20,8 +20,8 @@ pub fn digest_string<E: Engine>(engine: E, string: &[u8], out: &mut [u8]) -> E
 
 // The hash of a string. The engine comes back cleared.
 pub fn hash_string<E: Engine>(engine: E, string: &[u8]) -> (E, [u8; HASH_LEN])
-    ensures bytes { result.1 ≡ hash rule string.now }
-    ensures cleared { meaning result.0 ≡ zeros }
+    ensures bytes { result.1 ≡ hash E.rule string.now }
+    ensures cleared { E.meaning result.0 ≡ zeros }
 {
     let mut out = [0; HASH_LEN];
     let engine = digest_string(engine, string, &mut out);
@@ -36,9 +36,9 @@ pub fn digest_two<E: Engine>(
     second: &[u8],
     second_out: &mut [u8],
 ) -> E
-    ensures first_bytes { first_out.new ≡ output rule first.now (length first_out.new) }
-    ensures second_bytes { second_out.new ≡ output rule second.now (length second_out.new) }
-    ensures cleared { meaning result ≡ zeros }
+    ensures first_bytes { first_out.new ≡ output E.rule first.now (length first_out.new) }
+    ensures second_bytes { second_out.new ≡ output E.rule second.now (length second_out.new) }
+    ensures cleared { E.meaning result ≡ zeros }
 {
     let drawing = Feeding::begin(engine)
         .feed(first)

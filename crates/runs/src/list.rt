@@ -13,7 +13,7 @@ pub trait ItemList {
     ghost string: { Self → List ℕ };
 
     fn feed_into<E: Engine>(&self, feeding: Feeding<E>) -> Feeding<E>
-        ensures { (m : List ℕ) → Fed meaning rule feeding m → Fed meaning rule result (m ++ string self.now) };
+        ensures { (m : List ℕ) → Fed E.meaning E.rule feeding m → Fed E.meaning E.rule result (m ++ string self.now) };
 }
 
 impl<I: Item> ItemList for Vec<I> {

@@ -92,7 +92,7 @@ fn advance<E: Engine, L: ItemList>(
     nonce: Option<IssuedNonce>,
     step: &mut Step<L>,
 ) -> (Stage<E>, bool)
-    ensures { Advanced meaning rule string stage nonce step.old result step.new }
+    ensures { Advanced E.meaning E.rule L.string stage nonce step.old result step.new }
 {
     match stage {
         Stage::Free(engine) => from_free(engine, nonce, step),
@@ -113,7 +113,7 @@ fn step<E: Engine, L: ItemList>(
     at: usize,
 ) -> (Stage<E>, bool)
     requires { at < length script.old }
-    ensures { (d : Step L) → Stepped meaning rule string stage book.old script.old at d result book.new script.new }
+    ensures { (d : Step L) → Stepped E.meaning E.rule L.string stage book.old script.old at d result book.new script.new }
 {
     if is_issue(&script[at]) {
         issue(book, &mut script[at]);
@@ -124,7 +124,7 @@ fn step<E: Engine, L: ItemList>(
 }
 
 fn release<E: Engine>(stage: Stage<E>) -> E
-    ensures { Released meaning stage result }
+    ensures { Released E.meaning stage result }
 {
     match stage {
         Stage::Free(engine) => engine,
@@ -144,7 +144,7 @@ fn run_calls<E: Engine, L: ItemList>(
     engine: E,
     script: &mut [Step<L>],
 ) -> (Stage<E>, usize)
-    ensures { RanCalls meaning rule string book.old engine script.old result.0 result.1 book.new script.new }
+    ensures { RanCalls E.meaning E.rule L.string book.old engine script.old result.0 result.1 book.new script.new }
 {
     let mut stage = Stage::Free(engine);
     for at in 0..script.len() {
@@ -164,7 +164,7 @@ pub fn run<E: Engine, L: ItemList>(
     engine: E,
     script: &mut [Step<L>],
 ) -> Ended<E>
-    ensures { Runs meaning rule string book.old engine script.old result book.new script.new }
+    ensures { Runs E.meaning E.rule L.string book.old engine script.old result book.new script.new }
 {
     let (stage, ran) = run_calls(book, engine, script);
     Ended {

@@ -28,7 +28,7 @@ pub(crate) fn from_free<E: Engine, L: ItemList>(
     nonce: Option<IssuedNonce>,
     step: &mut Step<L>,
 ) -> (Stage<E>, bool)
-    ensures { Advanced meaning rule string (Stage.Free engine) nonce step.old result step.new }
+    ensures { Advanced E.meaning E.rule L.string (Stage.Free engine) nonce step.old result step.new }
 {
     match (&step.call, nonce) {
         (Call::StartSealing { key, issue: _ }, Some(nonce)) => {
@@ -54,7 +54,7 @@ pub(crate) fn from_adding_sealing<E: Engine, L: ItemList>(
     sealing: Sealing<E>,
     step: &mut Step<L>,
 ) -> (Stage<E>, bool)
-    ensures { Moved meaning rule string (Stage.AddingSealing sealing) step.old result step.new }
+    ensures { Moved E.meaning E.rule L.string (Stage.AddingSealing sealing) step.old result step.new }
 {
     match &step.call {
         Call::Add { piece } => {
@@ -78,7 +78,7 @@ pub(crate) fn from_writing<E: Engine, L: ItemList>(
     sealing: ClosedSealing<E>,
     step: &mut Step<L>,
 ) -> (Stage<E>, bool)
-    ensures { Moved meaning rule string (Stage.Writing sealing) step.old result step.new }
+    ensures { Moved E.meaning E.rule L.string (Stage.Writing sealing) step.old result step.new }
 {
     match &mut step.call {
         Call::Write { piece, buffer } => {
@@ -104,7 +104,7 @@ pub(crate) fn from_adding_opening<E: Engine, L: ItemList>(
     opening: Opening<E>,
     step: &mut Step<L>,
 ) -> (Stage<E>, bool)
-    ensures { Moved meaning rule string (Stage.AddingOpening opening) step.old result step.new }
+    ensures { Moved E.meaning E.rule L.string (Stage.AddingOpening opening) step.old result step.new }
 {
     match &step.call {
         Call::Add { piece } => {
@@ -128,7 +128,7 @@ pub(crate) fn from_ready_to_open<E: Engine, L: ItemList>(
     opening: ClosedOpening<E>,
     step: &mut Step<L>,
 ) -> (Stage<E>, bool)
-    ensures { Moved meaning rule string (Stage.ReadyToOpen opening) step.old result step.new }
+    ensures { Moved E.meaning E.rule L.string (Stage.ReadyToOpen opening) step.old result step.new }
 {
     match &mut step.call {
         Call::Open { sealed, buffer } => {
@@ -148,7 +148,7 @@ pub(crate) fn from_fed<E: Engine, L: ItemList>(
     feeding: Feeding<E>,
     step: &mut Step<L>,
 ) -> (Stage<E>, bool)
-    ensures { Moved meaning rule string (Stage.Fed feeding) step.old result step.new }
+    ensures { Moved E.meaning E.rule L.string (Stage.Fed feeding) step.old result step.new }
 {
     match &step.call {
         Call::Feed { piece } => {
@@ -177,7 +177,7 @@ pub(crate) fn from_drawn<E: Engine, L: ItemList>(
     drawing: Drawing<E>,
     step: &mut Step<L>,
 ) -> (Stage<E>, bool)
-    ensures { Moved meaning rule string (Stage.Drawn drawing) step.old result step.new }
+    ensures { Moved E.meaning E.rule L.string (Stage.Drawn drawing) step.old result step.new }
 {
     match &mut step.call {
         Call::Draw { buffer } => {

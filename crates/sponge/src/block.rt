@@ -12,14 +12,14 @@ pub const RATE: usize = 16;
 
 // Changes the byte at a place of the block by xor with b.
 pub fn xor_in<E: Engine>(engine: &mut E, place: usize, b: u8)
-    ensures { meaning engine.new ≡ xored (meaning engine.old) (place % rate) b }
+    ensures { E.meaning engine.new ≡ xored (E.meaning engine.old) (place % rate) b }
 {
     let _ = engine.xor_byte(place % RATE, b);
 }
 
 // The byte at a place of the block.
 pub fn byte_at<E: Engine>(engine: &E, place: usize) -> u8
-    ensures { result ≡ slice_index (meaning engine.now) (place % rate) }
+    ensures { result ≡ slice_index (E.meaning engine.now) (place % rate) }
 {
     match engine.byte(place % RATE) {
         Ok(b) => b,
@@ -29,7 +29,7 @@ pub fn byte_at<E: Engine>(engine: &E, place: usize) -> u8
 
 // Goes past a place of the block, and answers the next one. A full block is followed by the permutation.
 pub fn advance<E: Engine>(engine: &mut E, place: usize) -> usize
-    ensures { at (meaning engine.new) result ≡ advanced rule (at (meaning engine.old) (place % rate)) }
+    ensures { at (E.meaning engine.new) result ≡ advanced E.rule (at (E.meaning engine.old) (place % rate)) }
 {
     let next = place % RATE + 1;
     if next == RATE {
@@ -42,7 +42,7 @@ pub fn advance<E: Engine>(engine: &mut E, place: usize) -> usize
 
 // Takes in one byte, and answers the next place.
 pub fn absorb_byte<E: Engine>(engine: &mut E, place: usize, b: u8) -> usize
-    ensures { at (meaning engine.new) result ≡ absorb_byte rule (at (meaning engine.old) (place % rate)) b }
+    ensures { at (E.meaning engine.new) result ≡ absorb_byte E.rule (at (E.meaning engine.old) (place % rate)) b }
 {
     xor_in(engine, place, b);
     advance(engine, place)

@@ -17,7 +17,7 @@ pub struct Sponge<E> {
 impl<E: Engine> Sponge<E> {
     // A sponge of zeros, whatever the engine meant.
     pub fn new(engine: E) -> Sponge<E>
-        ensures { standing meaning result ≡ at zeros 0 }
+        ensures { standing E.meaning result ≡ at zeros 0 }
     {
         Sponge {
             engine: cleared(engine),
@@ -27,7 +27,7 @@ impl<E: Engine> Sponge<E> {
 
     // Takes in the next piece of a string.
     pub fn absorb(self, piece: &[u8]) -> Sponge<E>
-        ensures { Absorbs rule (standing meaning self) piece.now (standing meaning result) }
+        ensures { Absorbs E.rule (standing E.meaning self) piece.now (standing E.meaning result) }
     {
         let Sponge { mut engine, place } = self;
         let place = absorb_bytes(&mut engine, place, piece);
@@ -36,7 +36,7 @@ impl<E: Engine> Sponge<E> {
 
     // Ends the last block of a string.
     pub fn pad(self) -> Sponge<E>
-        ensures { Pads rule (standing meaning self) (standing meaning result) }
+        ensures { Pads E.rule (standing E.meaning self) (standing E.meaning result) }
     {
         let Sponge { mut engine, place } = self;
         let place = end_block(&mut engine, place);
@@ -45,7 +45,7 @@ impl<E: Engine> Sponge<E> {
 
     // Fills a buffer with the next bytes that the state gives.
     pub fn squeeze(self, out: &mut [u8]) -> Sponge<E>
-        ensures { Squeezes rule (standing meaning self) out.new (standing meaning result) }
+        ensures { Squeezes E.rule (standing E.meaning self) out.new (standing E.meaning result) }
     {
         let Sponge { mut engine, place } = self;
         let place = squeeze_bytes(&mut engine, place, out);
@@ -54,7 +54,7 @@ impl<E: Engine> Sponge<E> {
 
     // The engine, cleared.
     pub fn into_engine(self) -> E
-        ensures { meaning result ≡ zeros }
+        ensures { E.meaning result ≡ zeros }
     {
         let Sponge { engine, place: _ } = self;
         cleared(engine)
@@ -62,7 +62,7 @@ impl<E: Engine> Sponge<E> {
 }
 
 fn cleared<E: Engine>(mut engine: E) -> E
-    ensures { meaning result ≡ zeros }
+    ensures { E.meaning result ≡ zeros }
 {
     engine.clear();
     engine
@@ -72,7 +72,7 @@ fn cleared<E: Engine>(mut engine: E) -> E
 // Each takes the place in the block, and answers the next one.
 
 fn absorb_bytes<E: Engine>(engine: &mut E, mut place: usize, piece: &[u8]) -> usize
-    ensures { Absorbs rule (at (meaning engine.old) (place % rate)) piece.now (at (meaning engine.new) (result % rate)) }
+    ensures { Absorbs E.rule (at (E.meaning engine.old) (place % rate)) piece.now (at (E.meaning engine.new) (result % rate)) }
 {
     for b in piece {
         place = absorb_byte(engine, place, *b);
@@ -81,7 +81,7 @@ fn absorb_bytes<E: Engine>(engine: &mut E, mut place: usize, piece: &[u8]) -> us
 }
 
 fn end_block<E: Engine>(engine: &mut E, place: usize) -> usize
-    ensures { at (meaning engine.new) (result % rate) ≡ padded rule (at (meaning engine.old) (place % rate)) }
+    ensures { at (E.meaning engine.new) (result % rate) ≡ padded E.rule (at (E.meaning engine.old) (place % rate)) }
 {
     xor_in(engine, place, 1);
     let _ = engine.xor_byte(WIDTH - 1, 1);
@@ -90,7 +90,7 @@ fn end_block<E: Engine>(engine: &mut E, place: usize) -> usize
 }
 
 fn squeeze_bytes<E: Engine>(engine: &mut E, mut place: usize, out: &mut [u8]) -> usize
-    ensures { Squeezes rule (at (meaning engine.old) (place % rate)) out.new (at (meaning engine.new) (result % rate)) }
+    ensures { Squeezes E.rule (at (E.meaning engine.old) (place % rate)) out.new (at (E.meaning engine.new) (result % rate)) }
 {
     for b in out.iter_mut() {
         *b = byte_at(engine, place);

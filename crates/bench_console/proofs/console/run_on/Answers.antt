@@ -6,7 +6,7 @@ use Rattle.bench_console.proofs.console.run_on.Goals as goal
 
 pub returns : goal.returns
 returns g c =
-    let slice = c.as-mut-slice.ensures in
+    let slice = c.as_mut_slice.ensures in
     let after = c.run-ran.new.script in
     let left = c.run-ran.new.book in
     let long = c.run-ran.auto.script ∙ slice.len in

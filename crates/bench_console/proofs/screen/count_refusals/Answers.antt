@@ -7,11 +7,11 @@ use Rattle.bench_console.proofs.screen.count_refusals.Goals as goal
 pub overflow-add-count : goal.overflow-add-count
 overflow-add-count c =
     let few = refusals_fit c.args.steps.now c.loop-step.step-index (omega arith) in
-    omega (arith, few, c.loop-step.invariant, refusal_small c.step-item.result.reply, c.refusal-in-count.ensures)
+    omega (arith, few, c.loop-step.invariant, refusal_small c.step-item.result.reply, c.refusal_in-count.ensures)
 
 pub loop-step-preserved : goal.loop-step-preserved
 loop-step-preserved c =
-    ap₂ (λ (n m : ℕ). n + m) c.loop-step.invariant c.refusal-in-count.ensures
+    ap₂ (λ (n m : ℕ). n + m) c.loop-step.invariant c.refusal_in-count.ensures
     ∙ refusals_at c.args.steps.now c.loop-step.step-index _ (omega arith) c.step-item.is
 
 pub returns : goal.returns

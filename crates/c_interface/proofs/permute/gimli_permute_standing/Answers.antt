@@ -7,4 +7,4 @@ pub returns : goal.returns
 unfolding gimli
 returns c =
     let read = c.in-Some.ensures in
-    (read.0, c.copy-from-slice.ensures.after ∙ c.bytes.ensures ∙ ap string (c.standing-permutation.ensures.value ∙ ap permutation read.1))
+    (read.0, c.copy_from_slice.ensures.after ∙ c.bytes.ensures ∙ ap string (c.standing_permutation.ensures.value ∙ ap permutation read.1))

@@ -8,7 +8,7 @@ pub returns : goal.returns
 returns c =
     let read = c.in-Some.ensures in
     let made = c.permutation.ensures in
-    let written = c.write-shares.ensures in
+    let written = c.write_shares.ensures in
     record {
       long = read.long;
       each = written ∙ ap sharing_string (made.each ∙ ap shared_permutation read.each);

@@ -10,4 +10,4 @@ returns c =
     let before = c.args.sealed.now in
     let k : length m + 16 - length m ≡ rate = omega arith in
     let room : length m ≤ length before = omega arith in
-    box_written gimli c.args.key.now.bytes c.args.nonce.bytes c.args.ad.now m before c.seal-message.new.buffer _ c.seal-message.new.tag _ c.copy-from-slice.new.self c.seal-message.result.1 k c.copy-from-slice.ensures.after room c.seal-message.ensures.seals
+    box_written gimli c.args.key.now.bytes c.args.nonce.bytes c.args.ad.now m before c.seal_message.new.buffer _ c.seal_message.new.tag _ c.copy_from_slice.new.self c.seal_message.result.1 k c.copy_from_slice.ensures.after room c.seal_message.ensures.seals

@@ -20,11 +20,11 @@ returns g c =
     let nonce = c.args.nonce.now in
     let key = c.bytes.result.now in
     let start : e.meaning c.args.engine.now ≡ mixed zeros [] = c.requires ∙ sym (mixed-none zeros) in
-    let filled = c.load-from-2.ensures zeros nonce c.told-nonce (c.load-from.ensures zeros [] refl start) in
+    let filled = c.load_from-2.ensures zeros nonce c.told-nonce (c.load_from.ensures zeros [] refl start) in
     let long : length (nonce ++ key) ≡ width = length-append nonce key ∙ omega arith in
-    let loaded : e.meaning c.load-from-2.new.engine ≡ nonce ++ c.args.key.now.bytes =
+    let loaded : e.meaning c.load_from-2.new.engine ≡ nonce ++ c.args.key.now.bytes =
     filled ∙ mixed-zeros width (nonce ++ key) long ∙ ap (λ (t : List ℕ). nonce ++ t) c.bytes.ensures in
     record {
       state = loaded;
-      boxes = boxes e.rule g.met.E.Engine.keeps _ nonce (g.met.E.Engine.keeps _ (subst Whole loaded (g.met.E.Engine.whole c.load-from-2.new.engine)));
+      boxes = boxes e.rule g.met.E.Engine.keeps _ nonce (g.met.E.Engine.keeps _ (subst Whole loaded (g.met.E.Engine.whole c.load_from-2.new.engine)));
     }

@@ -14,19 +14,19 @@ joined x y e =
 
 pub slice-bounds-bytes-end-2 : goal.slice-bounds-bytes-end-2
 slice-bounds-bytes-end-2 c =
-    let long = length-append c.copy-from-slice.new.self (0 ∷ 0 ∷ 0 ∷ 0 ∷ []) in
-    omega (arith, c.copy-from-slice.ensures.len)
+    let long = length-append c.copy_from_slice.new.self (0 ∷ 0 ∷ 0 ∷ 0 ∷ []) in
+    omega (arith, c.copy_from_slice.ensures.len)
 
 pub returns : goal.returns
 returns c =
-    let x = c.copy-from-slice.new.self in
-    let y = c.copy-from-slice-2.new.self in
+    let x = c.copy_from_slice.new.self in
+    let y = c.copy_from_slice-2.new.self in
     let name = c.args.name.now in
     let count = c.args.count in
     let is : put_mid 12 4 (x ++ 0 ∷ 0 ∷ 0 ∷ 0 ∷ []) y ≡ nonce_of name count =
-    joined x y c.copy-from-slice.ensures.len
-    ∙ ap (λ (t : List ℕ). t ++ y) c.copy-from-slice.ensures.after
-    ∙ ap (λ (t : List ℕ). name ++ t) (c.copy-from-slice-2.ensures.after ∙ c.to-le-bytes.ensures) in
+    joined x y c.copy_from_slice.ensures.len
+    ∙ ap (λ (t : List ℕ). t ++ y) c.copy_from_slice.ensures.after
+    ∙ ap (λ (t : List ℕ). name ++ t) (c.copy_from_slice-2.ensures.after ∙ c.to_le_bytes.ensures) in
     record {
       bytes = is;
       sole = λ k h e. nonces_apart name k count (omega arith) (omega arith) (sym e ∙ is);

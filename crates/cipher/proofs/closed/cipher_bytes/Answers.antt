@@ -19,12 +19,12 @@ loop-i-preserved g c =
     let there = at (e.meaning c.advance-place.new.engine) (c.advance-place.result % rate) in
     let long = (g.met.E.Engine.whole c.loop-i.engine).long in
     let next : there ≡ absorb_byte e.rule (at s place) b =
-    advanced_read e.rule _ _ c.loop-i.place _ c.advance-place.ensures ∙ ap (λ (t : List ℕ). advanced e.rule (at t place)) c.xor-in.ensures in
-    let byte : c.byte-at.result ≡ keyed (at s place) b =
-    c.byte-at.ensures ∙ ap (λ (t : List ℕ). get_or t place 0) c.xor-in.ensures ∙ get_or-set_same s place _ 0 (omega arith) in
+    advanced_read e.rule _ _ c.loop-i.place _ c.advance-place.ensures ∙ ap (λ (t : List ℕ). advanced e.rule (at t place)) c.xor_in.ensures in
+    let byte : c.byte_at.result ≡ keyed (at s place) b =
+    c.byte_at.ensures ∙ ap (λ (t : List ℕ). get_or t place 0) c.xor_in.ensures ∙ get_or-set_same s place _ 0 (omega arith) in
     let room : i < length c.args.buffer.now = omega arith in (
       ciphered_next e.rule start (at s place) there piece c.args.buffer.now c.loop-i.buffer i _ c.loop-i-test.true room c.loop-i.invariant.1 c.loop-i.invariant.0 byte,
-      absorbed_next e.rule start (at s place) there piece c.args.buffer.now c.loop-i.buffer i c.byte-at.result c.loop-i-test.true room c.loop-i.invariant.1 next,
+      absorbed_next e.rule start (at s place) there piece c.args.buffer.now c.loop-i.buffer i c.byte_at.result c.loop-i-test.true room c.loop-i.invariant.1 next,
     )
 
 pub returns : goal.returns

@@ -11,12 +11,12 @@ returns-in-Ok g c =
     let nonce = c.args.nonce.bytes in
     let ad = c.args.ad.now in
     let m = c.args.message.now in
-    let wrote = subst (λ (r : Result ℕ Refusal). Wrote e.meaning e.rule c.closed-sealing.result m c.args.buffer.now c.write-closed.result.0 r c.write-closed.new.buffer) c.in-Ok.is c.write-closed.ensures in
+    let wrote = subst (λ (r : Result ℕ Refusal). Wrote e.meaning e.rule c.closed_sealing.result m c.args.buffer.now c.write-closed.result.0 r c.write-closed.new.buffer) c.in-Ok.is c.write-closed.ensures in
     record {
       seals = record {
         answer = wrote.0;
         room = wrote.1;
-        box = message_box e.rule key nonce ad m _ _ _ _ _ c.closed-sealing.ensures wrote.2 c.finish.ensures.tag;
+        box = message_box e.rule key nonce ad m _ _ _ _ _ c.closed_sealing.ensures wrote.2 c.finish.ensures.tag;
         rest = rest_stays e.rule m _ _ _ _ wrote.2;
       };
       cleared = c.finish.ensures.cleared;

@@ -3,6 +3,6 @@ use Rattle.cipher.proofs.record.tag_data.Goals as goal
 
 pub returns : goal.returns
 returns g c = record {
-  tag = empty_box g.E.Engine.rule _ _ _ _ _ c.closed-sealing.ensures c.finish.ensures.tag;
+  tag = empty_box g.E.Engine.rule _ _ _ _ _ c.closed_sealing.ensures c.finish.ensures.tag;
   cleared = c.finish.ensures.cleared;
 }

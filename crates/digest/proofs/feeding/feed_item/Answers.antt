@@ -7,7 +7,7 @@ use Rattle.digest.proofs.feeding.feed_item.Goals as goal
 pub loop-i-preserved : goal.loop-i-preserved
 loop-i-preserved g c =
     let read = c.in-Some.ensures in
-    next_byte g.E.Engine.rule (g.I-as-Item.bytes c.args.item.now) c.loop-i.i c.in-Some.b _ _ c.loop-i.place _ read.0 read.1 c.absorb-byte-place.ensures
+    next_byte g.E.Engine.rule (g.I-as-Item.bytes c.args.item.now) c.loop-i.i c.in-Some.b _ _ c.loop-i.place _ read.0 read.1 c.absorb_byte-place.ensures
     ∙ c.loop-i.invariant
 
 pub returns : goal.returns

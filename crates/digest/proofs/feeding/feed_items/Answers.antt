@@ -18,7 +18,7 @@ next_item {I = I} rule bytes items i x p q within read taken =
 
 pub loop-i-preserved : goal.loop-i-preserved
 loop-i-preserved g c =
-    next_item g.E.Engine.rule g.I-as-Item.bytes c.args.items.now c.loop-i.i _ _ _ c.loop-i-test.true (search rules) c.feed-item-place.ensures
+    next_item g.E.Engine.rule g.I-as-Item.bytes c.args.items.now c.loop-i.i _ _ _ c.loop-i-test.true (search rules) c.feed_item-place.ensures
     ∙ c.loop-i.invariant
 
 pub returns : goal.returns

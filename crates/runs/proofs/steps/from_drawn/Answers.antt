@@ -15,7 +15,7 @@ returns-in-Draw g c =
     let buffer = c.in-Draw.buffer in
     let after = c.draw-drawing.new.out in
     let made = c.draw-drawing.ensures in
-    let filled : vec_items (with_items buffer after) ≡ after = with_items_is buffer after (c.draw-drawing.auto.out ∙ c.as-mut-slice.ensures.len) in
+    let filled : vec_items (with_items buffer after) ≡ after = with_items_is buffer after (c.draw-drawing.auto.out ∙ c.as_mut_slice.ensures.len) in
     ran_by meaning rule g.L.ItemList.string (Drawn c.args.drawing) (Drawn c.draw-drawing.result) c.args.step.now _ (Draw buffer) c.in-Draw.is refl
     (λ M h. rw filled (at_draw meaning rule M after h.1 (made.next M.so_far.input (length M.so_far.draw) h.0)))
     (λ M h. rw filled (after_draw meaning rule M c.draw-drawing.result after (at_draw meaning rule M after h.1 (made.next M.so_far.input (length M.so_far.draw) h.0)) (made.drawn M.so_far.input (length M.so_far.draw) h.0)))

@@ -10,6 +10,6 @@ pub returns-in-EndFeeding : goal.returns-in-EndFeeding
 returns-in-EndFeeding g c =
     let meaning = g.E.Engine.meaning in
     let rule = g.E.Engine.rule in
-    ran_by meaning rule g.L.ItemList.string (Fed c.args.feeding) (Drawn c.end-feeding.result) c.args.step.now _ EndFeeding c.in-EndFeeding.is refl (λ M h. tt)
-    (λ M h. after_end meaning rule M c.end-feeding.result h.1 (c.end-feeding.ensures.fed M.so_far.input h.0))
+    ran_by meaning rule g.L.ItemList.string (Fed c.args.feeding) (Drawn c.end_feeding.result) c.args.step.now _ EndFeeding c.in-EndFeeding.is refl (λ M h. tt)
+    (λ M h. after_end meaning rule M c.end_feeding.result h.1 (c.end_feeding.ensures.fed M.so_far.input h.0))
     tt refl (ap asked c.in-EndFeeding.is) (ap use_of c.in-EndFeeding.is) refl

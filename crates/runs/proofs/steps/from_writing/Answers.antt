@@ -24,16 +24,16 @@ returns-in-Write g c =
     let piece = c.in-Write.piece in
     let buffer = c.in-Write.buffer in
     let after = c.write-sealing.new.buffer in
-    let filled : vec_items (with_items buffer after) ≡ after = with_items_is buffer after (c.write-sealing.auto.buffer ∙ c.as-mut-slice.ensures.len) in
+    let filled : vec_items (with_items buffer after) ≡ after = with_items_is buffer after (c.write-sealing.auto.buffer ∙ c.as_mut_slice.ensures.len) in
     let wrote : Wrote meaning rule s (vec_items piece) (vec_items buffer) t r after =
-    rw (← c.as-slice.ensures.value, ← c.as-mut-slice.ensures.value) c.write-sealing.ensures in
+    rw (← c.as_slice.ensures.value, ← c.as_mut_slice.ensures.value) c.write-sealing.ensures in
     ran_by meaning rule g.L.ItemList.string (Writing s) (Writing t) c.args.step.now _ (Write piece buffer) c.in-Write.is refl
     (λ M h.
-    subst (λ (y : Reply). Sound rule M (written (vec_items piece) (vec_items buffer) (vec_items (with_items buffer after)) (answer_in y))) (sym c.length-or-refusal-step.ensures)
+    subst (λ (y : Reply). Sound rule M (written (vec_items piece) (vec_items buffer) (vec_items (with_items buffer after)) (answer_in y))) (sym c.length_or_refusal-step.ensures)
     (subst (λ (x : List ℕ). Sound rule M (written (vec_items piece) (vec_items buffer) x (answer_in (reply_to r)))) (sym filled)
     (at_write meaning rule M s t (vec_items piece) (vec_items buffer) after r wrote)))
-    (λ M h. rw (filled, c.length-or-refusal-step.ensures) (after_write meaning rule M s t (vec_items piece) (vec_items buffer) after r h wrote))
-    tt (length_or_refusal meaning rule r c.length-or-refusal-step.result c.length-or-refusal-step.ensures) refl refl refl
+    (λ M h. rw (filled, c.length_or_refusal-step.ensures) (after_write meaning rule M s t (vec_items piece) (vec_items buffer) after r h wrote))
+    tt (length_or_refusal meaning rule r c.length_or_refusal-step.result c.length_or_refusal-step.ensures) refl refl refl
 
 pub returns-in-Finish : goal.returns-in-Finish
 returns-in-Finish g c =

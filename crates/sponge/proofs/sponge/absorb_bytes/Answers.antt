@@ -6,7 +6,7 @@ use Rattle.sponge.proofs.sponge.absorb_bytes.Goals as goal
 
 pub loop-b-preserved : goal.loop-b-preserved
 loop-b-preserved g c =
-    next_byte g.E.Engine.rule c.args.piece.now c.loop-b.b-index _ _ _ _ _ c.loop-b-test.true refl c.absorb-byte-place.ensures
+    next_byte g.E.Engine.rule c.args.piece.now c.loop-b.b-index _ _ _ _ _ c.loop-b-test.true refl c.absorb_byte-place.ensures
     ∙ c.loop-b.invariant
 
 pub returns : goal.returns

@@ -12,7 +12,7 @@ loop-b-preserved g c =
     let i = c.loop-b.b-index in
     let within = c.loop-b-test.true in
     let moved = c.advance-place.ensures in (
-      next_out rule c.loop-b.out n i _ _ _ c.loop-b.place _ within c.loop-b.auto.out c.byte-at.ensures moved ∙ c.loop-b.invariant.0,
+      next_out rule c.loop-b.out n i _ _ _ c.loop-b.place _ within c.loop-b.auto.out c.byte_at.ensures moved ∙ c.loop-b.invariant.0,
       next_state rule n i _ _ c.loop-b.place _ within moved ∙ c.loop-b.invariant.1,
     )
 

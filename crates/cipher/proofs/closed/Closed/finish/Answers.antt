@@ -16,5 +16,5 @@ returns g c =
     let long : length out ≡ rate = omega arith in
     record {
       tag = tags e.rule p out (first_block e.rule s out whole long (c.squeeze.ensures.first s whole ended));
-      cleared = c.into-engine.ensures;
+      cleared = c.into_engine.ensures;
     }

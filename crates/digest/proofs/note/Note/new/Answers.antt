@@ -8,5 +8,5 @@ pub returns : goal.returns
 returns c =
     let text = c.args.text.now in
     let of : List ℕ → Note = λ all. record { len = length text; text = all } in
-    let is : of c.with-zeros.result ≡ noted text = ap of c.with-zeros.ensures in
+    let is : of c.with_zeros.result ≡ noted text = ap of c.with_zeros.ensures in
     (omega arith, is, ap note_bytes is ∙ note_bytes-noted text (omega arith) (λ i. omega (arith, c.type-inv.text i)))
