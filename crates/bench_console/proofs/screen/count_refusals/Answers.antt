@@ -4,8 +4,8 @@ use Rattle.bench_console.specs.Screens.{refusals}
 use Rattle.bench_console.proofs.Lines.{refusal_small, refusals_at, refusals_fit}
 use Rattle.bench_console.proofs.screen.count_refusals.Goals as goal
 
-pub overflow-add-count : goal.overflow-add-count
-overflow-add-count c =
+pub overflow_add-count : goal.overflow_add-count
+overflow_add-count c =
     let few = refusals_fit c.args.steps.now c.loop-step.step-index (omega arith) in
     omega (arith, few, c.loop-step.invariant, refusal_small c.step-item.result.reply, c.refusal_in-count.ensures)
 

@@ -14,7 +14,7 @@ loop-piece-preserved c =
     let held = vec_items c.loop-piece.words in
     let i = c.loop-piece.piece-index in
     elim c.if-not-is_empty.branch [
-      | then-not-is-empty+in-ok-push w ↦ rw (w.words-is, w.in-ok-push.ensures.items) (words-at held items i _ (omega arith) (false-eqb _ _ w.if-not-is_empty.ensures) c.loop-piece.invariant)
+      | then-not-is-empty+in-ok-push w ↦ rw (w.words-is, w.in_ok-push.ensures.items) (words-at held items i _ (omega arith) (false-eqb _ _ w.if-not-is_empty.ensures) c.loop-piece.invariant)
       | else-not-is-empty w ↦ rw w.words-is (words_skip held items i _ (omega arith) (true-eqb _ _ w.if-not-is_empty.ensures) c.loop-piece.invariant)
     ]
 
@@ -23,4 +23,4 @@ returns c =
     let items = c.as_slice-piece-items.result.now in
     c.loop-piece.invariant
     ∙ ap (λ ts. filled (texts ts)) (take_all c.loop-piece.piece-index items (omega arith) ∙ c.as_slice-piece-items.ensures.value)
-    ∙ ap filled c.in-ok-pieces.ensures
+    ∙ ap filled c.in_ok-pieces.ensures

@@ -8,10 +8,10 @@ use Rattle.c_interface.proofs.permute.read_shares.Goals as goal
 pub returns : goal.returns
 returns c =
     let m = c.args.string.now in
-    let shares : Sharing = c.in-ok-zeroth.zeroth ∷ c.in-ok-first.first ∷ c.in-ok-second.second ∷ [] in
+    let shares : Sharing = c.in_ok-zeroth.zeroth ∷ c.in_ok-first.first ∷ c.in_ok-second.second ∷ [] in
     let long : length m ≡ 144 = omega arith in
     let each : shares ≡ sharing m = search rules in
-    let small : Bytes m = λ i. omega (arith, c.type-inv.string i) in
+    let small : Bytes m = λ i. omega (arith, c.type_inv.string i) in
     record {
       long = long;
       each = each;

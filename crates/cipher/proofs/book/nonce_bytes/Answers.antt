@@ -12,8 +12,8 @@ joined x y e =
     ∙ ap (λ (t : List ℕ). x ++ (y ++ drop 4 t)) (drop_at x z 12 e)
     ∙ ap (λ (t : List ℕ). x ++ t) (append-nil y)
 
-pub slice-bounds-bytes-end-2 : goal.slice-bounds-bytes-end-2
-slice-bounds-bytes-end-2 c =
+pub slice_bounds-bytes-end-2 : goal.slice_bounds-bytes-end-2
+slice_bounds-bytes-end-2 c =
     let long = length-append c.copy_from_slice.new.self (0 ∷ 0 ∷ 0 ∷ 0 ∷ []) in
     omega (arith, c.copy_from_slice.ensures.len)
 

@@ -37,7 +37,7 @@ returns g c =
     let end : c.loop-i.i ≡ length piece = omega arith in
     ciphers e.rule g.met.E.Engine.keeps start piece before _ _
     (record { whole = g.met.E.Engine.whole c.args.engine.now; within = omega arith })
-    (λ i. omega (arith, c.type-inv.piece i))
+    (λ i. omega (arith, c.type_inv.piece i))
     (
     c.loop-i.invariant.0
     ∙ ap (λ (x : List ℕ). cipher_piece e.rule start x ++ drop c.loop-i.i before) all

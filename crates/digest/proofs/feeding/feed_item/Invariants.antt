@@ -7,6 +7,6 @@ use Rattle.digest.proofs.feeding.feed_item.Given as goal
 abbrev pub invariant-loop-i : goal.invariant-loop-i
 invariant-loop-i g l =
     let e = g.E.Engine in
-    let s = g.I-as-Item.bytes l.item in
+    let s = g.I.Item.bytes l.item in
     absorb_piece e.rule (at (e.meaning l.engine) (l.place % rate)) (drop l.i s)
     ≡ absorb_piece e.rule (at (e.meaning l.initial.engine) (l.initial.place % rate)) s

@@ -18,13 +18,13 @@ next_item {I = I} rule bytes items i x p q within read taken =
 
 pub loop-i-preserved : goal.loop-i-preserved
 loop-i-preserved g c =
-    next_item g.E.Engine.rule g.I-as-Item.bytes c.args.items.now c.loop-i.i _ _ _ c.loop-i-test.true (search rules) c.feed_item-place.ensures
+    next_item g.E.Engine.rule g.I.Item.bytes c.args.items.now c.loop-i.i _ _ _ c.loop-i-test.true (search rules) c.feed_item-place.ensures
     ∙ c.loop-i.invariant
 
 pub returns : goal.returns
 returns g c =
     let e = g.E.Engine in
-    let bytes = g.I-as-Item.bytes in
+    let bytes = g.I.Item.bytes in
     let items = c.args.items.now in
     let here = at (e.meaning c.loop-i.engine) (c.loop-i.place % rate) in
     record {

@@ -8,6 +8,6 @@ use Rattle.digest.proofs.feeding.feed_items.Given as goal
 abbrev pub invariant-loop-i : goal.invariant-loop-i
 invariant-loop-i g l =
     let e = g.E.Engine in
-    let strings = flat_map g.I-as-Item.bytes in
+    let strings = flat_map g.I.Item.bytes in
     absorb_piece e.rule (at (e.meaning l.engine) (l.place % rate)) (strings (drop l.i l.items))
     ≡ absorb_piece e.rule (at (e.meaning l.initial.engine) (l.initial.place % rate)) (strings l.items)

@@ -9,4 +9,4 @@ returns c =
     let text = c.args.text.now in
     let of : List ℕ → Note = λ all. record { len = length text; text = all } in
     let is : of c.with_zeros.result ≡ noted text = ap of c.with_zeros.ensures in
-    (omega arith, is, ap note_bytes is ∙ note_bytes-noted text (omega arith) (λ i. omega (arith, c.type-inv.text i)))
+    (omega arith, is, ap note_bytes is ∙ note_bytes-noted text (omega arith) (λ i. omega (arith, c.type_inv.text i)))
