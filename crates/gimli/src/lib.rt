@@ -1,4 +1,6 @@
 // The Gimli permutation and the engines that compute it.
+#![tactic(auto)]
+
 pub mod plain;
 pub mod rounds;
 pub mod shares;
