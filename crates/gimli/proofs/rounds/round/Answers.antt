@@ -1,4 +1,4 @@
-use Rattle.std.proofs.Common.{◌≡◌, ◌%◌, eqb, ◌∙◌, arith, ne_eqb}
+use Rattle.std.proofs.Common.{◌%◌, arith, ne_eqb}
 use Rattle.gimli.specs.Permutation.{round}
 use Rattle.gimli.proofs.rounds.round.Goals as goal
 

@@ -1,5 +1,4 @@
 use Rattle.std.proofs.Common.{◌≡◌, ℕ, [], ◌∷◌, length, get_or, refl, ap, ◌∙◌, rules}
-use lib.Bits.{bit_xor}
 use Rattle.gimli.specs.Permutation.{Column, column, sp_box, columns}
 use Rattle.gimli.specs.Standing.{meant}
 use Rattle.gimli.proofs.StandingRow.{written}

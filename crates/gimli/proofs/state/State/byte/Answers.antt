@@ -1,4 +1,4 @@
-use Rattle.std.proofs.Common.{◌≡◌, ◌/◌, ◌%◌, get_or, sym, ap, ◌∙◌, arith}
+use Rattle.std.proofs.Common.{◌≡◌, ◌/◌, ◌%◌, get_or, arith}
 use Rattle.gimli.specs.Strings.{row_of}
 use Rattle.gimli.specs.StringsLemmas.{byte_read}
 use Rattle.gimli.proofs.state.State.byte.Goals as goal

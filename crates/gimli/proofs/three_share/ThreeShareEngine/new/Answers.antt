@@ -1,6 +1,6 @@
-use Rattle.std.proofs.Common.{◌≡◌, List, [], ◌∷◌, ap, ◌∙◌}
-use Rattle.gimli.specs.Shares.{joined, xor_states}
-use Rattle.gimli.specs.Strings.{string, state}
+use Rattle.std.proofs.Common.{[], ◌∷◌, ap, ◌∙◌}
+use Rattle.gimli.specs.Shares.{joined}
+use Rattle.gimli.specs.Strings.{string}
 use Rattle.gimli.proofs.SharedStrings.{cleared}
 use Rattle.gimli.specs.declared.state.State.{State}
 use Rattle.gimli.proofs.three_share.ThreeShareEngine.new.Goals as goal
