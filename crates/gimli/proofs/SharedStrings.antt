@@ -1,5 +1,5 @@
 -- The string of a sharing: its bytes are the xors of the shares' bytes; a byte xored into share 0 is xored into it.
-use Rattle.std.proofs.Common.{◌≡◌, ℕ, zero, suc, ◌+◌, ◌*◌, ◌/◌, ◌%◌, ◌^◌, ◌<◌, ◌≤◌, ◌≢◌, ◌⊎◌, List, [], ◌∷◌, length, get_or, set, Ok, Err, Result, sym, refl, ap, ◌∙◌, ap₂, inl, inr, arith}
+use Rattle.std.proofs.Common.{◌≡◌, ℕ, zero, suc, ◌*◌, ◌/◌, ◌%◌, ◌^◌, ◌<◌, ◌≢◌, ◌⊎◌, List, [], ◌∷◌, length, get_or, set, Ok, Err, Result, sym, refl, ap, ◌∙◌, inl, inr, arith}
 use lib.Bits.{bit_xor, xor_lt, xor_assoc, xor_comm, xor_self}
 use Rattle.std.proofs.lemmas.List.{set-get_or, length-set, get_or-set_same, get_or-set_other}
 use Rattle.std.proofs.lemmas.Bool.{cases_eq}
@@ -9,7 +9,7 @@ use Rattle.engine.specs.declared.refusal.Refusal.{Refusal}
 use Rattle.gimli.proofs.Bits.{xor_left_comm, xor_cancel}
 use Rattle.gimli.specs.Four.{row_at, row_whole}
 use Rattle.gimli.specs.StringsLemmas.{string_long, string-at, same_string, same_state, byte_of_xor}
-use Rattle.gimli.specs.Permutation.{row, Whole, WholeRow}
+use Rattle.gimli.specs.Permutation.{row, Whole}
 use Rattle.gimli.specs.Shares.{Sharing, share, joined, xor_states, WholeShares}
 use Rattle.gimli.specs.Strings.{row_of, byte_at, string, StateXored}
 use Rattle.gimli.specs.ThreeShare.{ShareXored}

@@ -1,11 +1,10 @@
 -- Three shares, permuted each by its own rules, make together the permutation of the state that they share.
-use Rattle.std.proofs.Common.{◌≡◌, ℕ, zero, suc, ◌+◌, ◌-◌, ◌%◌, Bool, true, false, cond, eqb, List, [], ◌∷◌, get_or, sym, refl, ap, ◌∙◌, ap₂}
-use lib.Bits.{bit_and, bit_or, bit_xor, xor_assoc, xor_comm, and_comm}
+use Rattle.std.proofs.Common.{◌≡◌, ℕ, zero, suc, ◌-◌, ◌%◌, Bool, true, false, cond, eqb, [], ◌∷◌, get_or, refl, ap, ◌∙◌}
+use lib.Bits.{bit_xor, xor_assoc, xor_comm}
 use Rattle.gimli.proofs.Bits.{xor_left_comm, and_xor, xor_and, or_is_xor}
 use Rattle.gimli.proofs.Words.{shifted_xor, rotated_xor}
 use Rattle.gimli.specs.StringsLemmas.{same_state}
-use Rattle.gimli.specs.Words.{shifted, rotated}
-use Rattle.gimli.specs.Permutation.{Column, row, column, from_columns, sp_box, columns, small_swap, big_swap, add_constant, round, first_rounds, permutation}
+use Rattle.gimli.specs.Permutation.{Column, column, from_columns, sp_box, columns, small_swap, big_swap, add_constant, round, first_rounds, permutation}
 use Rattle.gimli.specs.Shares.{Sharing, share, joined, xor_states, share_sp_box, share_columns, shared_columns, shared_small_swap, shared_big_swap, shared_constant, shared_round, first_shared_rounds, shared_permutation}
 use Rattle.gimli.specs.declared.state.State.{State}
 

@@ -1,5 +1,5 @@
 -- The top row that stands still: what is written at places j xor k, and what another k makes of it.
-use Rattle.std.proofs.Common.{◌≡◌, ℕ, ◌^◌, ◌<◌, List, [], ◌∷◌, length, get_or, set, sym, refl, ap, ◌∙◌, subst}
+use Rattle.std.proofs.Common.{◌≡◌, ℕ, ◌<◌, List, [], ◌∷◌, length, get_or, set, refl, ap, ◌∙◌, subst}
 use lib.Bits.{bit_xor, xor_lt}
 use Rattle.gimli.specs.Four.{by_four, row_of_four}
 use Rattle.gimli.specs.StringsLemmas.{same_state}

@@ -1,5 +1,5 @@
 -- The moves of a word's bits: they go through xor, they stay within 32 bits, and the code's rotation is the defined one.
-use Rattle.std.proofs.Common.{◌≡◌, ℕ, zero, suc, ◌+◌, ◌-◌, ◌*◌, ◌/◌, ◌%◌, ◌^◌, ◌<◌, ◌≤◌, sym, refl, ap, ◌∙◌, ap₂, mod-lt, add_comm, arith, pow_pos, pow_mono, shr_lt}
+use Rattle.std.proofs.Common.{◌≡◌, ℕ, ◌+◌, ◌*◌, ◌/◌, ◌%◌, ◌^◌, ◌<◌, ◌≤◌, ap, ◌∙◌, ap₂, mod-lt, add_comm, arith, pow_pos, pow_mono, shr_lt}
 use lib.Bits.{bit_or, bit_xor, xor_mod, xor_shr, xor_lt}
 use Rattle.gimli.proofs.Bits.{xor_shl, xor_medial, rotation_joins, shl_beyond}
 use Rattle.gimli.specs.Words.{shifted, rotated}

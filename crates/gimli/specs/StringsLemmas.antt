@@ -1,17 +1,16 @@
 -- Strings of states: 48 bytes; a byte changed by xor; a state read back from its string.
-use Rattle.std.specs.Prelude.{◌≡◌, ℕ, zero, suc, ◌+◌, ◌*◌, ◌/◌, ◌%◌, ◌^◌, ◌<◌, ◌≤◌, ◌≢◌, ◌⊎◌, List, [], ◌∷◌, map, length, bit_and, bit_xor, slice_index, slice_set, refl}
-use Rattle.std.proofs.Common.{sym, ap, ap₂, ◌∙◌, inl, inr, ⊎_elim, mod-lt, mod-eq_of_lt, div-one, arith, pow_pos, shr-shr}
+use Rattle.std.specs.Prelude.{◌≡◌, ℕ, zero, suc, ◌+◌, ◌*◌, ◌/◌, ◌%◌, ◌^◌, ◌<◌, ◌≤◌, ◌≢◌, ◌⊎◌, List, length, bit_and, bit_xor, slice_index, slice_set, refl}
+use Rattle.std.proofs.Common.{sym, ap, ◌∙◌, inl, inr, ⊎_elim, mod-lt, mod-eq_of_lt, div-one, arith, pow_pos, shr-shr}
 use Rattle.std.proofs.Math.Pow.{split}
 use Rattle.std.proofs.lemmas.Nat.{and_mask, xor_shr, xor_mod}
 use Rattle.std.specs.Int.Bits.{xor_zero_r}
-use Rattle.std.specs.List.{range_with_len}
 use Rattle.std.proofs.lemmas.List.FromFn.{length-map-range_with_len, get_or-map-range_with_len}
 use Rattle.std.proofs.lemmas.List.{ext_get_or, get_or_past, length-set, get_or-set_same, get_or-set_other}
 use Rattle.std.proofs.lemmas.Bool.{cases_eq, cases_lt}
-use Rattle.engine.specs.Strings.{xored, Bytes, Whole as WholeString}
+use Rattle.engine.specs.Strings.{xored, Whole as WholeString}
 use Rattle.gimli.specs.Four.{by_four, row_of_four}
 use Rattle.gimli.specs.Permutation.{row, Whole, WholeRow, permutation}
-use Rattle.gimli.specs.Strings.{row_of, byte_at, string, word_at, state, gimli}
+use Rattle.gimli.specs.Strings.{row_of, byte_at, string, state, gimli}
 use Rattle.gimli.specs.declared.state.State.{State}
 
 pub same_state : {s t : State} → s.top ≡ t.top → s.middle ≡ t.middle → s.bottom ≡ t.bottom → s ≡ t

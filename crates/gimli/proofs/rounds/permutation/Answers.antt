@@ -23,7 +23,7 @@ loop-done-init c = refl
 
 pub loop-done-preserved : goal.loop-done-preserved
 loop-done-preserved c =
-    c.four-rounds-s.ensures
+    c.four_rounds-s.ensures
     ∙ ap (four (24 - 4 * c.loop-done.done)) c.loop-done.invariant
     ∙ four_more c.loop-done.done c.args.s (omega arith)
 

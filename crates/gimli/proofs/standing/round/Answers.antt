@@ -4,8 +4,8 @@ use Rattle.gimli.specs.Permutation.{small_swap, big_swap, add_constant, round}
 use Rattle.gimli.proofs.StandingRow.{stays_below}
 use Rattle.gimli.proofs.standing.round.Goals as goal
 
-pub add-constant-requires : goal.add-constant-requires
-add-constant-requires c =
+pub add_constant-requires : goal.add_constant-requires
+add_constant-requires c =
     let below : c.columns-s.result.k < 4 = omega arith in
     rw c.small_swap.ensures.k (stays_below c.columns-s.result.k 1 below (lit< tt))
 
@@ -29,9 +29,9 @@ returns-in-2 c =
       k = (simp c.in-2.is k, rw k below);
     }
 
-pub returns-in-default : goal.returns-in-default
+pub returns-in_default : goal.returns-in_default
 unfolding round
-returns-in-default c =
+returns-in_default c =
     let no_small = ne_eqb (c.args.number % 4) 0 (omega arith) in
     let no_big = ne_eqb (c.args.number % 4) 2 (omega arith) in
     record {

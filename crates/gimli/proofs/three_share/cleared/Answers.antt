@@ -1,5 +1,5 @@
-use Rattle.std.proofs.Common.{◌≡◌, [], ◌∷◌, ap, ◌∙◌}
-use Rattle.gimli.specs.Shares.{Sharing, share, joined, xor_states}
+use Rattle.std.proofs.Common.{[], ◌∷◌, ap, ◌∙◌}
+use Rattle.gimli.specs.Shares.{Sharing, share, joined}
 use Rattle.gimli.specs.Strings.{string}
 use Rattle.gimli.specs.declared.state.State.{State}
 use Rattle.gimli.proofs.SharedStrings.{cleared}

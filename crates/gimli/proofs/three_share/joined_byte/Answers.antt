@@ -3,7 +3,7 @@ use Rattle.gimli.proofs.three_share.joined_byte.Goals as goal
 
 pub returns : goal.returns
 returns c =
-    let zeroth = c.in-ok-zeroth.ensures in
-    let first = c.in-ok-first.ensures in
-    let second = c.in-ok-second.ensures in
+    let zeroth = c.in_ok-zeroth.ensures in
+    let first = c.in_ok-first.ensures in
+    let second = c.in_ok-second.ensures in
     (zeroth.0, joined_read c.args.shares.now.share c.args.place _ _ _ zeroth.0 zeroth.1 first.1 second.1)

@@ -1,4 +1,4 @@
-use Rattle.std.proofs.Common.{◌≡◌, ap, ◌∙◌}
+use Rattle.std.proofs.Common.{ap, ◌∙◌}
 use Rattle.gimli.specs.Permutation.{permutation}
 use Rattle.gimli.specs.Shares.{joined, shared_permutation}
 use Rattle.gimli.specs.declared.shares.Shares.{Shares}

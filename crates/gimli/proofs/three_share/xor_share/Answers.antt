@@ -1,5 +1,4 @@
 use Rattle.std.proofs.Common.{◌≡◌, length, set, rules}
-use Rattle.gimli.specs.Shares.{Sharing}
 use Rattle.gimli.specs.ThreeShare.{ShareXored}
 use Rattle.gimli.proofs.SharedStrings.{lent_xored, meaning_xored}
 use Rattle.gimli.proofs.three_share.xor_share.Goals as goal

@@ -1,5 +1,4 @@
 use Rattle.std.proofs.Common.{◌≡◌, [], ◌∷◌, length, ◌∙◌, rules}
-use Rattle.gimli.specs.Shares.{Sharing}
 use Rattle.gimli.proofs.SharedStrings.{three_shares}
 use Rattle.gimli.proofs.shares.Shares.known.Goals as goal
 

@@ -5,4 +5,4 @@ use Rattle.gimli.proofs.state.State.from_bytes.Goals as goal
 
 pub returns : goal.returns
 unfolding state
-returns c = (omega arith, same_state c.row-at.ensures c.row-at-2.ensures c.row-at-3.ensures)
+returns c = (omega arith, same_state c.row_at.ensures c.row_at-2.ensures c.row_at-3.ensures)

@@ -4,4 +4,4 @@ use Rattle.gimli.proofs.state.State.xor.Goals as goal
 
 pub returns : goal.returns
 unfolding xor_states
-returns c = same_state c.xor-rows.ensures c.xor-rows-2.ensures c.xor-rows-3.ensures
+returns c = same_state c.xor_rows.ensures c.xor_rows-2.ensures c.xor_rows-3.ensures
