@@ -1,4 +1,4 @@
-use Rattle.std.proofs.Common.{◌/◌, ◌%◌, ◌<◌, arith}
+use Rattle.std.proofs.Common.{◌/◌, ◌%◌, arith}
 use Rattle.hex_text.proofs.Hex.{digit_encoded}
 use Rattle.hex_text.proofs.digits.HexByteDisplay.fmt.Goals as goal
 
@@ -7,4 +7,4 @@ returns-clause-writes g c =
     let b = c.args.self.now.0 in
     let high = digit_encoded (b / 16) (omega arith) in
     let low = digit_encoded (b % 16) (omega arith) in
-    simp (c.digit-char-high.ensures, c.digit-char-low.ensures, high, low) at c.write.ensures.shows
+    simp (c.digit_char-high.ensures, c.digit_char-low.ensures, high, low) at c.write.ensures.writes

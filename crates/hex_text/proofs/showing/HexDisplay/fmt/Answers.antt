@@ -1,4 +1,4 @@
-use Rattle.std.proofs.Common.{◌≡◌, ℕ, ◌+◌, List, [], ◌∷◌, get_or, take, sym, refl, ap, ◌∙◌, arith}
+use Rattle.std.proofs.Common.{[], get_or, take, sym, refl, ap, ◌∙◌, arith}
 use Rattle.std.proofs.Output.{has_written_append, has_written_of_eq, writes_in_calls_nil}
 use Rattle.std.proofs.lemmas.List.{take_all, take_more, flat_map_more}
 use Rattle.hex_text.specs.Hex.{hex, pair}
@@ -13,7 +13,7 @@ loop-b-preserved g c =
     let i = c.loop-b.b-index in
     λ plain. let before = c.loop-b.invariant plain in
     has_written_of_eq _ _ _ _ _ (flat_map_more pair [] (take i s) (get_or s i 0) ∙ ap hex (sym (take_more s i 0 (omega arith))))
-    (has_written_append _ _ _ _ _ _ before (c.in-ok-write.ensures.shows before.plain refl))
+    (has_written_append _ _ _ _ _ _ before (c.in_ok-write.ensures.writes before.plain refl))
 
 pub returns-clause-writes : goal.returns-clause-writes
 returns-clause-writes g c =
