@@ -11,7 +11,7 @@ returns-then-digits c = λ s whole is. omega (arith, ap length is ∙ hex_long s
 pub returns-in_err-string : goal.returns-in_err-string
 returns-in_err-string c =
     let i = c.loop-place.place in
-    rw c.from-residual.ensures
+    rw c.from_residual.ensures
     (λ s whole is. c.in_err-string.ensures (get_or s i 0) (whole.bytes i)
     (ap (λ (l : List ℕ). get_or l (2 * i) 0 ∷ get_or l (2 * i + 1) 0 ∷ []) is ∙ hex-at s i (omega (arith, whole.long))))
 

@@ -1,7 +1,7 @@
 use Rattle.std.proofs.Common.{◌≡◌, ◌-◌, length, get_or, ap, ◌∙◌, arith, ltb-false, ltb-true}
 use Rattle.round_viewer.proofs.Requests.{laid_out, layout_long, layout_end}
 use Rattle.round_viewer.proofs.request.parts.Goals as goal
-use Rattle.round_viewer.proofs.request.parts.Goals.{in-default-via-then-input-lt4, in-default-via-else-input-lt4+in-32·+in-default·, in-default-via-else-input-lt4+in-default·}
+use Rattle.round_viewer.proofs.request.parts.Goals.{in_default-via-then-input-lt4, in_default-via-else-input-lt4+in-32+in_default-1, in_default-via-else-input-lt4+in_default-1}
 
 pub returns-in_default : goal.returns-in_default
 returns-in_default c = λ tens ones digits is.
@@ -10,9 +10,9 @@ returns-in_default c = λ tens ones digits is.
     let space : get_or input 2 0 ≡ 32 = ap (λ l. get_or l 2 0) is in
     let end : get_or input (length input - 1) 0 ≡ 10 = ap (λ l. get_or l (length l - 1) 0) is ∙ layout_end tens ones digits in
     elim c.in_default.branch [
-      | in-default-via-then-input-lt4 w ↦ omega (arith, ltb-true)
-      | in-default-via-else-input-lt4+in-32·+in-default· w ↦ omega arith
-      | in-default-via-else-input-lt4+in-default· w ↦ omega arith
+      | in_default-via-then-input-lt4 w ↦ omega (arith, ltb-true)
+      | in_default-via-else-input-lt4+in-32+in_default-1 w ↦ omega arith
+      | in_default-via-else-input-lt4+in_default-1 w ↦ omega arith
     ]
 
 pub returns : goal.returns
