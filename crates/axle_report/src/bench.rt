@@ -1,5 +1,6 @@
 // The bench: seals a record of two axles, axle by axle, on three shares, and prints its slip.
 use crate::show::Said;
+use anyhow::anyhow;
 use cipher::book::NonceBook;
 use cipher::key::Key;
 use digest::force_word::ForceWord;
@@ -157,11 +158,11 @@ fn name_of(call: &Call<Lists>) -> &'static str {
 
 fn refused(e: Refusal) -> anyhow::Error {
     match e {
-        Refusal::KeyLength => "a key is not 32 bytes".into(),
-        Refusal::NameLength => "a bench name is not 12 bytes".into(),
-        Refusal::NoteLength => "a note is longer than 28 bytes".into(),
-        Refusal::MaskLength => "a mask is not 48 bytes".into(),
-        _ => "refused".into(),
+        Refusal::KeyLength => anyhow!("a key is not 32 bytes"),
+        Refusal::NameLength => anyhow!("a bench name is not 12 bytes"),
+        Refusal::NoteLength => anyhow!("a note is longer than 28 bytes"),
+        Refusal::MaskLength => anyhow!("a mask is not 48 bytes"),
+        _ => anyhow!("refused"),
     }
 }
 

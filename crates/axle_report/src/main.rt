@@ -1,7 +1,6 @@
 // What the library does, step by step, for one real task: an axle record from the bench to the inspection office.
 #![tactic(auto)]
 
-
 mod bench;
 mod office;
 mod permuting;

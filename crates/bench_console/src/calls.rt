@@ -90,13 +90,13 @@ fn feed_notes(heap: Global, words: &[&[u8]]) -> Result<Call<Lists>, Fault> {
 
 // The calls of one word.
 fn one_word(word: &[u8]) -> Result<Call<Lists>, Fault> {
-    if word == b"issue" {
+    if word == b"issue".as_slice() {
         Ok(Call::Issue)
-    } else if word == b"close" {
+    } else if word == b"close".as_slice() {
         Ok(Call::Close)
-    } else if word == b"finish" {
+    } else if word == b"finish".as_slice() {
         Ok(Call::Finish)
-    } else if word == b"release" {
+    } else if word == b"release".as_slice() {
         Ok(Call::Release)
     } else {
         Err(Fault::NotUnderstood)
@@ -109,8 +109,8 @@ fn two_words(heap: Global, first: &[u8], second: &[u8]) -> Result<Call<Lists>, F
         b"add" => add(heap, second),
         b"feed" => feed(heap, second),
         b"draw" => draw(heap, second),
-        b"begin" if second == b"digest" => Ok(Call::BeginDigest),
-        b"end" if second == b"feeding" => Ok(Call::EndFeeding),
+        b"begin" if second == b"digest".as_slice() => Ok(Call::BeginDigest),
+        b"end" if second == b"feeding".as_slice() => Ok(Call::EndFeeding),
         _ => Err(Fault::NotUnderstood),
     }
 }
@@ -137,7 +137,7 @@ fn four_words(
     at: usize,
 ) -> Result<Call<Lists>, Fault> {
     let [verb, what, key, with] = words;
-    if verb != b"start" {
+    if verb != b"start".as_slice() {
         return Err(Fault::NotUnderstood);
     }
     match what {
@@ -171,10 +171,10 @@ pub(crate) fn read_call(
     at: usize,
 ) -> Result<Call<Lists>, Fault> {
     match words {
-        [verb, kind, list @ ..] if *verb == b"feed" && *kind == b"forces" => {
+        [verb, kind, list @ ..] if *verb == b"feed".as_slice() && *kind == b"forces".as_slice() => {
             feed_forces(heap, list)
         }
-        [verb, kind, list @ ..] if *verb == b"feed" && *kind == b"notes" => {
+        [verb, kind, list @ ..] if *verb == b"feed".as_slice() && *kind == b"notes".as_slice() => {
             feed_notes(heap, list)
         }
         _ => counted_words(heap, words, issues, at),

@@ -12,7 +12,7 @@ const UNTOUCHED: u8 = 0xaa;
 
 // A string in hex digits; `-` is the empty one.
 pub(crate) fn string(heap: Global, word: &[u8]) -> Result<Vec<u8>, Fault> {
-    if word == b"-" {
+    if word == b"-".as_slice() {
         return Ok(Vec::new(heap));
     }
     match read_string(heap, word)? {

@@ -44,9 +44,9 @@ pub struct Faulty {
 }
 
 fn unmasked_engine(kind: &[u8]) -> Result<Chosen, Fault> {
-    if kind == b"plain" {
+    if kind == b"plain".as_slice() {
         Ok(Chosen::Plain(PlainEngine::new()))
-    } else if kind == b"standing" {
+    } else if kind == b"standing".as_slice() {
         Ok(Chosen::Standing(StandingEngine::new()))
     } else {
         Err(Fault::NotUnderstood)
@@ -54,7 +54,7 @@ fn unmasked_engine(kind: &[u8]) -> Result<Chosen, Fault> {
 }
 
 fn masked_engine(heap: Global, kind: &[u8], first: &[u8], second: &[u8]) -> Result<Chosen, Fault> {
-    if kind != b"three-share" {
+    if kind != b"three-share".as_slice() {
         return Err(Fault::NotUnderstood);
     }
     let first = making::string(heap, first)?;

@@ -2,7 +2,7 @@ use Rattle.std.proofs.Common.{◌≡◌, ◌-◌, ◌++◌, length, take, drop, 
 use Rattle.bench_console.specs.Words.{texts}
 use Rattle.bench_console.proofs.Cutting.{piece_further, ended_further, last_further}
 use Rattle.bench_console.proofs.words.pieces.Goals as goal
-use Rattle.bench_console.proofs.words.pieces.Goals.{then-text-at+in-ok-push, else-text-at}
+use Rattle.bench_console.proofs.words.pieces.Goals.{then-text-at+in_ok-push, else-text-at}
 
 pub loop-at-preserved : goal.loop-at-preserved
 loop-at-preserved c =
@@ -12,7 +12,7 @@ loop-at-preserved c =
     let b = c.loop-at.begin in
     let i = c.loop-at.at in
     elim c.if-text-at.branch [
-      | then-text-at+in-ok-push w ↦ rw (w.begin-is, w.pieces-is, w.in_ok-push.ensures.items) (omega arith, ended_further held _ mark text b i refl (omega arith) (omega (arith, w.if-text-at)) c.loop-at.invariant.1)
+      | then-text-at+in_ok-push w ↦ rw (w.begin-is, w.pieces-is, w.in_ok-push.ensures.items) (omega arith, ended_further held _ mark text b i refl (omega arith) (omega (arith, w.if-text-at)) c.loop-at.invariant.1)
       | else-text-at w ↦ rw (w.begin-is, w.pieces-is) (omega arith, ap (λ ps. texts held ++ ps) (sym (piece_further mark text b i c.loop-at.invariant.0 (omega arith) w.if-text-at.false)) ∙ c.loop-at.invariant.1)
     ]
 

@@ -3,7 +3,7 @@ use Rattle.std.proofs.lemmas.List.{take_all}
 use Rattle.bench_console.specs.Words.{filled, texts}
 use Rattle.bench_console.proofs.Cutting.{words-at, words_skip}
 use Rattle.bench_console.proofs.words.words.Goals as goal
-use Rattle.bench_console.proofs.words.words.Goals.{then-not-is-empty+in-ok-push, else-not-is-empty}
+use Rattle.bench_console.proofs.words.words.Goals.{then-not-is_empty+in_ok-push, else-not-is_empty}
 
 pub loop-piece-init : goal.loop-piece-init
 loop-piece-init c = ap texts c.new-words.ensures.items
@@ -14,8 +14,8 @@ loop-piece-preserved c =
     let held = vec_items c.loop-piece.words in
     let i = c.loop-piece.piece-index in
     elim c.if-not-is_empty.branch [
-      | then-not-is-empty+in-ok-push w ↦ rw (w.words-is, w.in_ok-push.ensures.items) (words-at held items i _ (omega arith) (false-eqb _ _ w.if-not-is_empty.ensures) c.loop-piece.invariant)
-      | else-not-is-empty w ↦ rw w.words-is (words_skip held items i _ (omega arith) (true-eqb _ _ w.if-not-is_empty.ensures) c.loop-piece.invariant)
+      | then-not-is_empty+in_ok-push w ↦ rw (w.words-is, w.in_ok-push.ensures.items) (words-at held items i _ (omega arith) (false-eqb _ _ w.if-not-is_empty.ensures) c.loop-piece.invariant)
+      | else-not-is_empty w ↦ rw w.words-is (words_skip held items i _ (omega arith) (true-eqb _ _ w.if-not-is_empty.ensures) c.loop-piece.invariant)
     ]
 
 pub returns : goal.returns

@@ -12,7 +12,7 @@ pub loop-at-preserved : goal.loop-at-preserved
 loop-at-preserved g c =
     λ plain. let before = c.loop-at.invariant plain in
     has_written_of_eq _ _ _ _ _ (lines_at c.args.self.now.0.now c.loop-at.at _ (omega arith) c.index-steps-at.is)
-    (has_written_append _ _ _ _ _ _ before (c.in_ok-write.ensures.shows before.plain refl))
+    (has_written_append _ _ _ _ _ _ before (c.in_ok-write.ensures.writes before.plain refl))
 
 pub returns-clause-writes : goal.returns-clause-writes
 returns-clause-writes g c =

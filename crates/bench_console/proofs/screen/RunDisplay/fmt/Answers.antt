@@ -6,9 +6,9 @@ use Rattle.bench_console.proofs.screen.RunDisplay.fmt.Goals as goal
 pub returns-then-self-steps-clause-writes : goal.returns-then-self-steps-clause-writes
 returns-then-self-steps-clause-writes g c =
     let r = c.args.self.now in
-    λ plain ok. has_written_of_eq _ _ _ _ _ (run_whole r.steps.now r.ran (omega arith)) (c.write.ensures.shows plain ok)
+    λ plain ok. has_written_of_eq _ _ _ _ _ (run_whole r.steps.now r.ran (omega arith)) (c.write.ensures.writes plain ok)
 
 pub returns-clause-writes : goal.returns-clause-writes
 returns-clause-writes g c =
     let r = c.args.self.now in
-    λ plain ok. has_written_of_eq _ _ _ _ _ (run_stopped r.steps.now r.ran _ (omega arith) c.index-steps-self.is) (c.write-2.ensures.shows plain ok)
+    λ plain ok. has_written_of_eq _ _ _ _ _ (run_stopped r.steps.now r.ran _ (omega arith) c.index-steps-self.is) (c.write-2.ensures.writes plain ok)
