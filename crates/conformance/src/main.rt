@@ -1,7 +1,6 @@
 // The vectors on standard input, on the three engines and the reference: what agrees, and what does not.
 #![tactic(auto)]
 
-
 mod boxes;
 mod hashing;
 mod permuting;
