@@ -2,7 +2,6 @@
 // agrees, and what does not.
 #![tactic(auto)]
 
-
 mod case;
 mod controls;
 mod damage;
