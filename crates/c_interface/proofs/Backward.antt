@@ -3,7 +3,7 @@ use Rattle.std.proofs.Common.{◌≡◌, ℕ, zero, suc, ◌+◌, ◌*◌, ◌/�
 use Rattle.std.proofs.lemmas.List.{drop-drop, get_or-drop, get_or_past, get_or-take, length-drop, length-take, length-take-le, take_all, take-append-drop}
 use Rattle.std.proofs.lemmas.Bool.{cases_lt}
 use Rattle.engine.specs.Strings.{Bytes}
-use Rattle.gimli.specs.Permutation.{row, Whole}
+use Rattle.gimli.specs.Permutation.{Whole}
 use Rattle.gimli.specs.Shares.{WholeShares}
 use Rattle.gimli.specs.Strings.{row_of, byte_at, string, word_at, state}
 use Rattle.gimli.specs.Four.{by_four, row_whole}

@@ -1,13 +1,13 @@
 -- What a box answers, from what an opening under its key and nonce answers.
-use Rattle.std.proofs.Common.{◌≡◌, ℕ, ◌-◌, List, ◌++◌, length, drop, Ok, Err, Result, sym, refl, ◌∙◌, subst, inl, inr, arith}
+use Rattle.std.proofs.Common.{◌≡◌, ℕ, List, ◌++◌, length, Ok, Err, Result, sym, refl, ◌∙◌, subst, inl, inr, arith}
 use Rattle.std.proofs.lemmas.Bool.Decides.{nat_tests}
 use Rattle.engine.specs.Refusals.{number}
 use Rattle.engine.specs.declared.refusal.Refusal.{Refusal}
 use Rattle.gimli.specs.Strings.{gimli}
-use Rattle.sponge.specs.Blocks.{rate, absorbed, sealed_box}
+use Rattle.sponge.specs.Blocks.{absorbed, sealed_box}
 use Rattle.cipher.specs.Openings.{Opens}
 use Rattle.c_interface.specs.Faults.{done, answer_of}
-use Rattle.c_interface.specs.Opening.{BoxOf, open_fault, Opened, NoMessage, OpenAnswered}
+use Rattle.c_interface.specs.Opening.{open_fault, OpenAnswered}
 
 module _ (key nonce ad sealed before after : List ℕ) (key_fits : length key ≡ 32) (nonce-fits : length nonce ≡ 16) where
   opened_ok : (n : ℕ) → Opens gimli (absorbed gimli (gimli (nonce ++ key)) ad) sealed before after (Ok n) → OpenAnswered key nonce ad sealed before after done

@@ -1,5 +1,5 @@
 -- The string of a state, row after row.
-use Rattle.std.proofs.Common.{◌≡◌, ℕ, List, ◌++◌, replicate, sym, refl, ap, ◌∙◌, div-one}
+use Rattle.std.proofs.Common.{◌≡◌, ℕ, List, ◌++◌, replicate, sym, ap, ◌∙◌, div-one}
 use borrow.Rule.Slice.PartMut.{put_mid}
 use Rattle.gimli.specs.Strings.{string}
 use Rattle.gimli.specs.declared.state.State.{State}

@@ -1,9 +1,8 @@
 -- The string that three shares have in common, and what the permutation of each share does to it.
-use Rattle.std.proofs.Common.{◌≡◌, ℕ, List, ◌++◌, length, take, drop, sym, refl, ap, ◌∙◌, arith}
+use Rattle.std.proofs.Common.{◌≡◌, ℕ, List, ◌++◌, length, take, drop, sym, ap, ◌∙◌, arith}
 use Rattle.std.proofs.lemmas.List.{append_assoc, length-append, take_at, drop_at, take_all}
-use Rattle.engine.specs.Strings.{width}
 use Rattle.gimli.specs.Permutation.{permutation}
-use Rattle.gimli.specs.Shares.{Sharing, share, joined, xor_states, WholeShares, shared_permutation}
+use Rattle.gimli.specs.Shares.{Sharing, share, joined, xor_states, WholeShares}
 use Rattle.gimli.specs.Strings.{gimli, string}
 use Rattle.gimli.specs.declared.state.State.{State}
 use Rattle.gimli.proofs.SharedStrings.{joined_whole}

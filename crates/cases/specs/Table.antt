@@ -1,5 +1,5 @@
 -- Worked cases of the definitions that the contracts cite.
-use Rattle.std.specs.Prelude.{◌≡◌, ℕ, List, [], ◌∷◌, drop, replicate}
+use Rattle.std.specs.Prelude.{◌≡◌, [], ◌∷◌, drop, replicate}
 use Rattle.sponge.specs.Blocks.{blocks}
 use Rattle.cipher.specs.Nonces.{nonce_of}
 use Rattle.gimli.specs.Permutation.{Column, sp_box, first_rounds}

@@ -1,5 +1,5 @@
 -- The tag of a message, byte by byte and by blocks.
-use Rattle.std.proofs.Common.{◌≡◌, ℕ, List, ◌++◌, length, take, sym, refl, ap, ◌∙◌, arith}
+use Rattle.std.proofs.Common.{◌≡◌, ℕ, List, ◌++◌, length, take, refl, ap, ◌∙◌, arith}
 use Rattle.std.proofs.lemmas.List.{length-take-le, take_at}
 use Rattle.engine.specs.Strings.{Whole}
 use Rattle.sponge.specs.Blocks.{rate, absorbed, ciphertext, boxed, squeezed, stream}

@@ -1,10 +1,10 @@
 -- The permutation keeps a state of 32-bit words one.
-use Rattle.std.proofs.Common.{◌≡◌, ℕ, zero, suc, ◌+◌, ◌-◌, ◌%◌, ◌^◌, ◌<◌, Bool, true, false, cond, eqb, List, [], ◌∷◌, length, get_or, refl, arith}
-use lib.Bits.{bit_and, bit_or, bit_xor, and_lt, or_lt, xor_lt}
+use Rattle.std.proofs.Common.{ℕ, zero, suc, ◌-◌, ◌%◌, ◌^◌, ◌<◌, Bool, true, false, cond, eqb, [], ◌∷◌, get_or, refl, arith}
+use lib.Bits.{bit_and, bit_or, bit_xor, xor_lt}
 use Rattle.gimli.specs.Four.{row_whole}
 use Rattle.gimli.proofs.Words.{shifted_fits, rotated_fits}
 use Rattle.gimli.specs.Words.{shifted, rotated}
-use Rattle.gimli.specs.Permutation.{row, Whole, WholeRow, Column, column, sp_box, columns, small_swap, big_swap, add_constant, round, first_rounds, permutation}
+use Rattle.gimli.specs.Permutation.{Whole, WholeRow, Column, column, sp_box, columns, small_swap, big_swap, add_constant, round, first_rounds, permutation}
 use Rattle.gimli.specs.declared.state.State.{State}
 
 abbrev Fitting : Column → Type 0

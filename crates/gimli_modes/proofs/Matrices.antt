@@ -1,7 +1,7 @@
 -- What a sponge does to a state's string is what the published modes do to its words.
-use Rattle.std.proofs.Common.{◌≡◌, ℕ, zero, suc, ◌+◌, ◌-◌, ◌*◌, ◌/◌, ◌%◌, ◌^◌, ◌<◌, ◌≤◌, ◌≢◌, ◌⊎◌, List, [], ◌∷◌, ◌++◌, length, get_or, take, drop, set, replicate, sym, refl, ap, ◌∙◌, subst, ap₂, inl, inr, ⊎_elim, add-zero, arith}
+use Rattle.std.proofs.Common.{◌≡◌, ℕ, zero, suc, ◌+◌, ◌*◌, ◌/◌, ◌%◌, ◌^◌, ◌<◌, ◌≤◌, List, [], ◌∷◌, ◌++◌, length, get_or, take, drop, set, replicate, sym, refl, ap, ◌∙◌, ap₂, inl, inr, add-zero, arith}
 use lib.Bits.{bit_xor, xor_lt, xor_zero_r}
-use Rattle.std.proofs.lemmas.List.{length-set, length-append, length-replicate, get_or_past, get_or-take, get_or-drop, get_or-set_same, get_or-set_other, get_or_append_left, get_or-append_right, get_or-replicate}
+use Rattle.std.proofs.lemmas.List.{length-set, get_or_past, get_or-drop, get_or-set_same, get_or-set_other, get_or_append_left, get_or-append_right}
 use Rattle.std.proofs.lemmas.Bool.{cases_eq, cases_lt}
 use Rattle.engine.specs.Strings.{Bytes, zeros, xored}
 use Rattle.gimli.specs.Four.{by_four, row_at, row_whole}
@@ -11,7 +11,6 @@ use Rattle.gimli.specs.Strings.{row_of, byte_at, string, word_at, state, gimli}
 use Rattle.gimli.specs.declared.state.State.{State}
 use Rattle.sponge.specs.Blocks.{mixed}
 use Rattle.gimli_modes.specs.Published.{zero_state, loaded, with_block, marked, squeeze}
-use Rattle.gimli_modes.proofs.Fits.{permutation_whole}
 
 -- ---- bytes of strings
 

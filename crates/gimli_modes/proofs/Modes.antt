@@ -1,12 +1,11 @@
 -- A sponge over the Gimli rule absorbs, enciphers and squeezes as the published modes do.
-use Rattle.std.proofs.Common.{◌≡◌, ℕ, zero, suc, ◌+◌, ◌-◌, ◌*◌, ◌/◌, ◌%◌, ◌<◌, ◌≤◌, List, [], ◌∷◌, ◌++◌, length, take, drop, replicate, sym, refl, ap, ◌∙◌, subst, ap₂, arith}
+use Rattle.std.proofs.Common.{◌≡◌, ℕ, zero, suc, ◌+◌, ◌-◌, ◌*◌, ◌/◌, ◌<◌, ◌≤◌, List, [], ◌∷◌, ◌++◌, length, take, drop, replicate, sym, refl, ap, ◌∙◌, subst, ap₂, arith}
 use lib.Seq.{take-append-add}
 use Rattle.std.proofs.lemmas.List.{append_assoc, length-append, length-drop, length-replicate, length-take-le, take-take, drop-drop}
 use Rattle.engine.specs.Strings.{Bytes, zeros, xored}
 use Rattle.gimli.specs.Permutation.{Whole, permutation}
 use Rattle.gimli.specs.Strings.{string, gimli}
 use Rattle.gimli.specs.declared.state.State.{State}
-use Rattle.gimli.specs.StringsLemmas.{string_long}
 use Rattle.sponge.proofs.Absorbing.{mixed_push}
 use Rattle.sponge.specs.Blocks.{mixed, after_full, after_last, absorbed, cipher_full, ciphertext, boxed, sealed_box, squeezed, hash, output}
 use Rattle.gimli_modes.specs.Published.{zero_state, loaded, cut, pad, with_block, marked, absorb, absorb_all, squeeze, squeeze_all, encipher, published_hash, published_output, published_box}

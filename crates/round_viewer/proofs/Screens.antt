@@ -1,5 +1,5 @@
 -- What is shown for an input, from the answer to it.
-use Rattle.std.proofs.Common.{◌≡◌, ℕ, List, Ok, Err, ap, ◌∙◌, ap₂}
+use Rattle.std.proofs.Common.{ℕ, List, Ok, Err, ap, ◌∙◌, ap₂}
 use Rattle.std.specs.Fmt.{digits}
 use Rattle.engine.specs.Refusals.{number}
 use Rattle.engine.specs.declared.refusal.Refusal.{Refusal}

@@ -1,8 +1,8 @@
 -- The history of a script that grows by one step.
-use Rattle.std.proofs.Common.{◌≡◌, ℕ, zero, suc, ◌<◌, ◌⊎◌, List, [], ◌∷◌, ◌++◌, length, get_or, sym, refl, ap, ◌∙◌, ap₂, inl, inr, append_assoc, append-nil, le_of_suc-le-suc, arith}
+use Rattle.std.proofs.Common.{◌≡◌, ℕ, zero, suc, ◌<◌, ◌⊎◌, List, [], ◌∷◌, ◌++◌, length, get_or, refl, ap, ap₂, inl, inr, append_assoc, append-nil, arith}
 use Rattle.runs.specs.History.{Event}
 use Rattle.runs.specs.Scripts.{call_event, buffer_in, event, history}
-use Rattle.runs.specs.Traces.{Model, next, Happened, Spent, Sound, Fresh, AllRight}
+use Rattle.runs.specs.Traces.{Model, next, Happened, Sound, Fresh, AllRight}
 use Rattle.runs.proofs.Lawful.{model_after}
 use Rattle.runs.specs.declared.script.Call.{Call}
 use Rattle.runs.specs.declared.script.Reply.{Reply}

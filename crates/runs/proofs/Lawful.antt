@@ -1,10 +1,10 @@
 -- Every right trace is lawful.
-use Rattle.std.proofs.Common.{◌≡◌, ℕ, ◌+◌, ◌-◌, ◌<◌, ◌≤◌, ◌⊎◌, ◌↔◌, List, [], ◌∷◌, ◌++◌, length, take, drop, replicate, sym, refl, ap, ◌∙◌, subst, ap₂, inl, inr, ⊎_elim, append_assoc, append-nil, arith}
+use Rattle.std.proofs.Common.{◌≡◌, ℕ, ◌-◌, List, [], ◌∷◌, ◌++◌, length, take, drop, replicate, sym, refl, ap, ◌∙◌, subst, ap₂, inl, inr, append_assoc, append-nil}
 use Rattle.std.proofs.lemmas.List.{take_at}
 use Rattle.sponge.specs.Blocks.{sealed_box, output}
-use Rattle.runs.specs.History.{Answer, done, refused, Event, issued, used_up, sealing_started, opening_started, digest_begun, added, closed, written, opened, finished, fed, feeding_ended, drawn, released, Midway, AllMidway, Parts, nothing, parts, joined, additions, message, cipher_joined, inputs, draws}
+use Rattle.runs.specs.History.{Answer, done, refused, Event, issued, used_up, sealing_started, opening_started, digest_begun, added, closed, written, opened, finished, fed, feeding_ended, drawn, released, Midway, AllMidway, Parts, nothing, parts, additions, message, cipher_joined, inputs, draws}
 use Rattle.runs.specs.Laws.{Returns, Seals, Digests, Opening, Opens, Tells, Silent, Zeroed, Lawful}
-use Rattle.runs.specs.Traces.{Model, begun, grown, next, Happened, Spent, Answered, Sound, Fresh, AllRight}
+use Rattle.runs.specs.Traces.{Model, begun, grown, next, Happened, Answered, Sound, Fresh, AllRight}
 
 -- ---- how a trace goes on
 

@@ -1,5 +1,5 @@
 -- What one call makes of a stage, by the call.
-use Rattle.std.proofs.Common.{◌≡◌, ℕ, ◌+◌, ◌-◌, ◌≤◌, ◌⊎◌, List, [], ◌++◌, length, take, drop, replicate, Some, None, Ok, Err, Result, sym, refl, ap, ◌∙◌, subst, inl, inr, append-nil, arith, length-append}
+use Rattle.std.proofs.Common.{◌≡◌, ℕ, ◌+◌, ◌-◌, ◌≤◌, ◌⊎◌, List, [], ◌++◌, length, take, drop, replicate, Some, Ok, Err, Result, sym, ap, ◌∙◌, subst, inl, inr, append-nil, arith, length-append}
 use Rattle.std.proofs.lemmas.List.{drop_at}
 use Rattle.engine.specs.Refusals.{number}
 use Rattle.engine.specs.declared.refusal.Refusal.{Refusal}
@@ -11,16 +11,16 @@ use Rattle.cipher.specs.Ciphering.{cipher_piece, Tags}
 use Rattle.cipher.specs.Openings.{Opens, TooShort, NoRoom, NoMessage}
 use Rattle.cipher.specs.Sealings.{Wrote}
 use Rattle.cipher.specs.declared.sealing.ClosedSealing.{ClosedSealing}
-use Rattle.digest.specs.Digests.{Fed, Drawn}
+use Rattle.digest.specs.Digests.{Drawn}
 use Rattle.digest.specs.declared.drawing.Drawing.{Drawing}
 use Rattle.runs.proofs.Lawful.{grown-nothing, none_drawn}
 use Rattle.runs.specs.Allowed.{leads, use_of}
 use Rattle.runs.specs.Asks.{asked}
-use Rattle.runs.specs.History.{Answer, done, refused, closed, written, opened, finished, feeding_ended, drawn, nothing}
+use Rattle.runs.specs.History.{done, refused, closed, written, opened, finished, feeding_ended, drawn}
 use Rattle.runs.specs.Laws.{Refuses}
-use Rattle.runs.specs.Scripts.{Kind, a_length, a_refusal, kind, Replied, call_event, buffer_in, answer_in, reply_to}
+use Rattle.runs.specs.Scripts.{a_length, a_refusal, kind, Replied, call_event, buffer_in, answer_in, reply_to}
 use Rattle.runs.specs.Stages.{point_of, keyed, loaded, Adds, Writes, Holds, Cleared, Ran}
-use Rattle.runs.specs.Traces.{Model, next, grown, Sound, Answered}
+use Rattle.runs.specs.Traces.{Model, next, Sound}
 use Rattle.runs.specs.declared.script.Call.{Call}
 use Rattle.runs.specs.declared.script.Reply.{Reply}
 use Rattle.runs.specs.declared.script.Step.{Step}

@@ -1,27 +1,24 @@
 -- A run that has come to its i-th call: what holds of the script, the stage and the book, and that one call more keeps it.
-use Rattle.std.proofs.Common.{◌≡◌, ℕ, zero, suc, ◌+◌, ◌<◌, ◌≤◌, Bool, true, false, cond, not, ◌&&◌, eqb, ◌≢◌, ◌⊎◌, List, [], ◌∷◌, ◌++◌, map, length, get_or, take, drop, set, is_some, Some, None, MatchBool, Option, sym, refl, ap, ◌∙◌, subst, ap₂, inl, inr, ⊎_elim, add-zero, add_assoc, add-one, arith, eq-eqb, ne_eqb}
+use Rattle.std.proofs.Common.{◌≡◌, ℕ, suc, ◌+◌, ◌<◌, ◌≤◌, Bool, true, false, cond, not, ◌&&◌, eqb, ◌≢◌, ◌⊎◌, List, [], ◌∷◌, ◌++◌, length, get_or, drop, set, Some, None, MatchBool, Option, sym, refl, ap, ◌∙◌, subst, ap₂, inl, inr, add-zero, add_assoc, add-one, arith, eq-eqb, ne_eqb}
 use Rattle.std.proofs.lemmas.List.{get_or_default, get_or-set_same, get_or-set_other, length-set, length-append, get_or_append_left, get_or_past, get_or_push, set-get_or, drop_all, drop_more, length-map, get_or-map}
 use Rattle.std.proofs.lemmas.Bool.{cases_eq, cases_lt}
-use Rattle.std.specs.Option.{option_map}
-use Rattle.engine.specs.Strings.{zeros}
 use Rattle.cipher.specs.Keys.{key_bytes}
-use Rattle.cipher.specs.Nonces.{issued_bytes, nonce_of, last_count, Issues}
+use Rattle.cipher.specs.Nonces.{issued_bytes, last_count}
 use Rattle.cipher.specs.declared.book.IssuedNonce.{IssuedNonce}
 use Rattle.cipher.specs.declared.book.NonceBook.{NonceBook}
-use Rattle.cipher.specs.declared.key.Key.{Key}
-use Rattle.runs.specs.Allowed.{Point, free, sealing_adds, sealing_writes, opening_adds, opening_opens, digest_feeds, digest_draws, only, leads, Use, issues, takes, neither, use_of, Place, placed, issue_place, place_by, next_place, one_more, how_far}
+use Rattle.runs.specs.Allowed.{Point, free, sealing_adds, sealing_writes, opening_adds, opening_opens, digest_feeds, digest_draws, only, leads, Use, issues, takes, neither, use_of, Place, placed, issue_place, next_place, one_more, how_far}
 use Rattle.runs.specs.Asks.{asked}
 use Rattle.runs.specs.History.{refused, Event, issued, used_up, sealing_started}
-use Rattle.runs.specs.Runs.{calls, start, nonces_of, issued_in, IssueTold, IssuesAlong, bookish, untaken, Kept, RanCalls, Runs}
+use Rattle.runs.specs.Runs.{calls, start, nonces_of, issued_in, IssueTold, IssuesAlong, bookish, untaken, Kept, RanCalls}
 use Rattle.runs.specs.Scripts.{kind, answer_in, Replied, buffer_in, event, call_event, issue_event, nonce_in, history}
-use Rattle.runs.specs.Stages.{point_of, token, token_by, emptied, Spends, Readied, Takes, Lacks, Holds, Cleared, Ran, Took, Stuck, Advanced, NonceIssued, IssueRefused, IssueRan, IssueStep, EngineStep, SteppedBy, Stepped}
-use Rattle.runs.specs.Traces.{Model, begun, next, Happened, Spent, Sound, Fresh, AllRight}
-use Rattle.runs.proofs.Histories.{Alike, history_agrees, history_more, model_more, right_more, happened_more, happened_last}
+use Rattle.runs.specs.Stages.{point_of, token, emptied, Spends, Readied, Takes, Lacks, Holds, Cleared, Ran, Advanced, IssueRan, EngineStep, SteppedBy, Stepped}
+use Rattle.runs.specs.Traces.{Model, begun, next, Sound, Fresh, AllRight}
+use Rattle.runs.proofs.Histories.{Alike, history_agrees, history_more, model_more, right_more}
 use Rattle.runs.proofs.Nonces.{no, Held, Nonces, here_or_before, nonces_quiet, nonces_issued, nonces_started}
 use Rattle.runs.proofs.Sorts.{is_issue, is_start, is_plain}
-use Rattle.runs.proofs.Lawful.{model_after, grown-nothing, happened_within, lawful}
+use Rattle.runs.proofs.Lawful.{model_after, grown-nothing, lawful}
 use Rattle.runs.specs.declared.script.Call.{Call}
-use Rattle.runs.specs.declared.script.Call.TheVariants.{Issue, StartSealing, StartOpening, Add, Close, Write, Finish, Open, BeginDigest, Feed, FeedList, EndFeeding, Draw, Release}
+use Rattle.runs.specs.declared.script.Call.TheVariants.{Issue}
 use Rattle.runs.specs.declared.script.Reply.{Reply}
 use Rattle.runs.specs.declared.script.Reply.TheVariants.{Nonce}
 use Rattle.runs.specs.declared.script.Step.{Step}

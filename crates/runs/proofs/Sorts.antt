@@ -1,7 +1,7 @@
 -- A call issues, or starts a sealing, or has nothing to do with nonces; and what its event then is.
-use Rattle.std.proofs.Common.{◌≡◌, ℕ, false, ◌⊎◌, List, Some, None, refl, ap, ◌∙◌, inl, inr}
+use Rattle.std.proofs.Common.{◌≡◌, ℕ, false, ◌⊎◌, List, refl, ap, ◌∙◌, inl, inr}
 use Rattle.cipher.specs.declared.key.Key.{Key}
-use Rattle.runs.specs.Allowed.{Use, issues, takes, neither, use_of}
+use Rattle.runs.specs.Allowed.{issues, takes, neither, use_of}
 use Rattle.runs.specs.History.{Event, sealing_started}
 use Rattle.runs.specs.Runs.{nonces_of, bookish, IssueTold}
 use Rattle.runs.specs.Scripts.{call_event}

@@ -1,5 +1,5 @@
 -- A nonce taken out of the step that issued it.
-use Rattle.std.proofs.Common.{◌≡◌, ℕ, ◌<◌, List, length, get_or, set, Some, None, Option, refl, ap, ◌∙◌, inr}
+use Rattle.std.proofs.Common.{ℕ, ◌<◌, List, length, get_or, set, Some, None, Option, ap, ◌∙◌, inr}
 use Rattle.std.proofs.lemmas.List.{get_or_default, set-get_or}
 use Rattle.cipher.specs.declared.book.IssuedNonce.{IssuedNonce}
 use Rattle.runs.specs.Stages.{TakesNonce, Spends}

@@ -1,5 +1,5 @@
 -- One call of a script, from what its parts do.
-use Rattle.std.proofs.Common.{◌≡◌, ℕ, ◌<◌, Bool, true, false, List, length, get_or, set, Some, None, Option, sym, refl, ap, ◌∙◌, subst, arith}
+use Rattle.std.proofs.Common.{◌≡◌, ℕ, ◌<◌, Bool, true, false, List, length, get_or, set, Some, Option, sym, refl, ap, arith}
 use Rattle.std.proofs.lemmas.List.{get_or_default, get_or-set_same}
 use Rattle.cipher.specs.declared.book.IssuedNonce.{IssuedNonce}
 use Rattle.cipher.specs.declared.book.NonceBook.{NonceBook}

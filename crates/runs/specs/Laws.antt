@@ -1,5 +1,5 @@
 -- The laws of every run, in the words of sealing and opening.
-use Rattle.std.specs.Prelude.{◌≡◌, ℕ, ◌+◌, ◌-◌, ◌<◌, ◌≤◌, ◌⊎◌, ◌↔◌, List, [], ◌∷◌, ◌++◌, length, drop, replicate, ◌≢◌}
+use Rattle.std.specs.Prelude.{◌≡◌, ℕ, ◌+◌, ◌-◌, ◌<◌, ◌≤◌, ◌⊎◌, ◌↔◌, List, ◌∷◌, ◌++◌, length, drop, replicate, ◌≢◌}
 use Rattle.sponge.specs.Blocks.{sealed_box, output}
 use Rattle.runs.specs.History.{Answer, done, refused, Event, issued, sealing_started, opening_started, digest_begun, written, opened, finished, AllMidway, additions, message, cipher_joined, inputs, draws}
 

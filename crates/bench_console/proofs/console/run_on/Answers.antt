@@ -1,4 +1,4 @@
-use Rattle.std.proofs.Common.{◌≡◌, List, vec_items, sym, ◌∙◌, subst}
+use Rattle.std.proofs.Common.{vec_items, sym, ◌∙◌, subst}
 use Rattle.runs.specs.Runs.{Outcome}
 use Rattle.bench_console.specs.Consoles.{list_string}
 use Rattle.bench_console.proofs.Lines.{slice_left}

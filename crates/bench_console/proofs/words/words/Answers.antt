@@ -1,4 +1,4 @@
-use Rattle.std.proofs.Common.{◌≡◌, vec_items, sym, refl, ap, ◌∙◌, arith, true-eqb, false-eqb}
+use Rattle.std.proofs.Common.{vec_items, ap, ◌∙◌, arith, true-eqb, false-eqb}
 use Rattle.std.proofs.lemmas.List.{take_all}
 use Rattle.bench_console.specs.Words.{filled, texts}
 use Rattle.bench_console.proofs.Cutting.{words-at, words_skip}

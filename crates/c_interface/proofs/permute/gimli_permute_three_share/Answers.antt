@@ -1,4 +1,4 @@
-use Rattle.std.proofs.Common.{◌≡◌, ap, ◌∙◌}
+use Rattle.std.proofs.Common.{ap, ◌∙◌}
 use Rattle.gimli.specs.Shares.{shared_permutation}
 use Rattle.c_interface.specs.Permuting.{sharing_string}
 use Rattle.c_interface.proofs.Shared.{shared_permuted}

@@ -1,5 +1,5 @@
-use Rattle.std.proofs.Common.{◌≡◌, ℕ, length, sym, refl, ◌∙◌, subst, arith}
-use Rattle.runs.proofs.Progress.{Come, at_start, come_further, come_halted, ended, all_ran}
+use Rattle.std.proofs.Common.{◌≡◌, length, refl, arith}
+use Rattle.runs.proofs.Progress.{at_start, come_further, come_halted, ended, all_ran}
 use Rattle.runs.proofs.run.run_calls.Goals as goal
 
 pub loop-at-init : goal.loop-at-init

@@ -1,4 +1,4 @@
-use Rattle.std.proofs.Common.{◌≡◌, sym, ◌∙◌}
+use Rattle.std.proofs.Common.{sym, ◌∙◌}
 use Rattle.runs.proofs.Stepping.{stepped_issue, stepped_engine}
 use Rattle.runs.proofs.run.step.Goals as goal
 

@@ -1,8 +1,6 @@
-use Rattle.std.proofs.Common.{◌≡◌, length, vec_items, refl, ap, ◌∙◌}
+use Rattle.std.proofs.Common.{◌≡◌, length, vec_items, refl, ◌∙◌}
 use Rattle.std.proofs.lemmas.List.{with_items_is}
 use Rattle.std.specs.Vec.{with_items}
-use Rattle.runs.specs.History.{drawn}
-use Rattle.runs.specs.Traces.{Model, Sound}
 use Rattle.runs.proofs.Moves.{ran_by, at_draw, after_draw}
 use Rattle.runs.specs.declared.script.Call.TheVariants.{Draw}
 use Rattle.runs.specs.declared.stage.Stage.TheVariants.{Drawn}

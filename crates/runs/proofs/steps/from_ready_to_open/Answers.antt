@@ -1,9 +1,8 @@
-use Rattle.std.proofs.Common.{◌≡◌, vec_items, refl, ap, ◌∙◌}
+use Rattle.std.proofs.Common.{◌≡◌, vec_items, refl, ◌∙◌}
 use Rattle.std.proofs.lemmas.List.{with_items_is}
 use Rattle.std.specs.Vec.{with_items}
 use Rattle.cipher.specs.Openings.{Opens}
 use Rattle.runs.specs.Stages.{keyed}
-use Rattle.runs.specs.Traces.{Model}
 use Rattle.runs.proofs.Moves.{ran_by, at_open, length_or_refusal}
 use Rattle.runs.specs.declared.script.Call.TheVariants.{Open}
 use Rattle.runs.specs.declared.stage.Stage.TheVariants.{Free, ReadyToOpen}

@@ -1,5 +1,5 @@
-use Rattle.std.proofs.Common.{◌≡◌, ℕ, ◌+◌, ◌-◌, ◌%◌, ◌<◌, length, get_or, sym, ap, ◌∙◌, arith, rules}
-use Rattle.digest.specs.Notes.{text_len, note_bytes}
+use Rattle.std.proofs.Common.{◌≡◌, ℕ, ◌+◌, ◌-◌, ◌%◌, ◌<◌, get_or, sym, ap, ◌∙◌, arith, rules}
+use Rattle.digest.specs.Notes.{note_bytes}
 use Rattle.digest.specs.NotesLemmas.{length_note, get_or_note}
 use Rattle.digest.proofs.note.NoteItem.byte.Goals as goal
 
