@@ -1,4 +1,6 @@
 // Strings in the words of a state: the lowest byte of a word comes first.
+ghost use Rattle.std.specs.Prelude.{◌<◌, length};
+
 use crate::permutation::{Words, permute};
 
 // The number of bytes in a state.
@@ -35,6 +37,13 @@ pub(crate) fn string_of(s: &Words) -> [u8; WIDTH] {
     string
 }
 
+// What follows the full blocks of a string.
+pub(crate) fn tail(string: &[u8]) -> &[u8]
+    ensures { length result.now < 16 }
+{
+    &string[string.len() - string.len() % BLOCK..]
+}
+
 // Ends a string of n bytes, of which the last block is taken in.
 pub(crate) fn end_string(s: &mut Words, n: usize) {
     s[n % BLOCK / 4] ^= 1 << (8 * (n % 4));
@@ -44,11 +53,11 @@ pub(crate) fn end_string(s: &mut Words, n: usize) {
 
 // Takes in a whole string.
 pub(crate) fn absorb(s: &mut Words, string: &[u8]) {
-    for block in string.chunks(BLOCK) {
+    for block in string.chunks_exact(BLOCK) {
         xor_string(s, 0, block);
-        if block.len() == BLOCK {
-            permute(s);
-        }
+        permute(s);
     }
-    end_string(s, string.len());
+    let rest = tail(string);
+    xor_string(s, 0, rest);
+    end_string(s, rest.len());
 }
