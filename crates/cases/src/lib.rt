@@ -5,20 +5,13 @@ ghost use Rattle.std.specs.Prelude.{◌≡◌};
 ghost use Rattle.cases.specs.Published.{Published};
 ghost use Rattle.cases.specs.Table.{Table, ShareTerms};
 
-// The table of worked cases holds. The answer is how many it has.
+// The table of worked cases holds, and one more case of the shares. The answer is how many the table has.
 pub fn worked_cases() -> u32
     ensures table { Table }
+    ensures share_terms { ShareTerms }
     ensures count { result ≡ 13 }
 {
     4 + 2 + 3 + 3 + 1
-}
-
-// One more worked case holds: a share to which every term adds something. The answer is how many cases that is.
-pub fn share_terms_case() -> u32
-    ensures terms { ShareTerms }
-    ensures count { result ≡ 1 }
-{
-    1
 }
 
 // The published answers are what the definitions give. The answer is how many there are.
