@@ -183,7 +183,7 @@ fn set_up() -> Result<Bench, Refusal> {
     })
 }
 
-pub fn report(rt: &HostRuntime) -> anyhow::Result<Sealed> {
+pub(crate) fn report(rt: &HostRuntime) -> anyhow::Result<Sealed> {
     println!(rt;
         "The bench BENCH-000017 seals a record of two axles on three shares, axle by axle."
     )?;

@@ -96,7 +96,7 @@ fn open(rt: &HostRuntime, nonce: &[u8], sealed: Vec<u8>) -> anyhow::Result<()> {
     }
 }
 
-pub fn report(rt: &HostRuntime, sealed: Sealed) -> anyhow::Result<()> {
+pub(crate) fn report(rt: &HostRuntime, sealed: Sealed) -> anyhow::Result<()> {
     let Sealed { nonce, sealed } = sealed;
     let mut damaged = sealed.clone()?;
     println!(rt; "The office opens the box on a plain engine.")?;

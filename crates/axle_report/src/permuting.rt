@@ -84,7 +84,7 @@ fn verdict(agrees: bool) -> &'static str {
     }
 }
 
-pub fn report(rt: &HostRuntime) -> io::Result<()> {
+pub(crate) fn report(rt: &HostRuntime) -> io::Result<()> {
     let mut words = [0; 12];
     for i in 0..12u32 {
         words[i as usize] = test_word(i);

@@ -1,6 +1,6 @@
 // A call that ran, as a line.
 ghost use Rattle.std.specs.Prelude.{Some};
-ghost use Rattle.bench_console.specs.Answers.{shown as string-text, told, buffered, answer, line, lines};
+ghost use Rattle.bench_console.specs.Answers.{shown as string_text, told, buffered, answer, line, lines};
 
 use crate::calls::Lists;
 use hex_text::showing::Hex;
@@ -12,7 +12,7 @@ use std::fmt;
 struct Shown<'a>(&'a [u8]);
 
 impl fmt::Display for Shown<'_> {
-    ghost output = { λ s. Some (string-text s.0.now) };
+    ghost output = { λ s. Some (string_text s.0.now) };
 
     fn fmt<W: fmt::Write>(&self, f: &mut fmt::Formatter<W>) -> fmt::Result {
         match self.0 {

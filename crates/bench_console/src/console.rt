@@ -46,7 +46,7 @@ pub fn console(heap: Global, input: &[u8]) -> Result<Screen, AllocError>
         Err(Faulty { line, fault }) => match fault {
             Fault::NotUnderstood => Ok(Screen::NotUnderstood(line)),
             Fault::Refused(e) => Ok(Screen::Refused(line, e)),
-            Fault::NoMemory => Err(AllocError),
+            Fault::NoMemory(e) => Err(e),
         },
     }
 }

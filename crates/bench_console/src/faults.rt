@@ -7,7 +7,7 @@ pub enum Fault {
     NotUnderstood,
     Refused(Refusal),
     // not a fault of the line: the machine has no memory for it
-    NoMemory,
+    NoMemory(AllocError),
 }
 
 impl From<Refusal> for Fault {
@@ -17,14 +17,14 @@ impl From<Refusal> for Fault {
 }
 
 impl From<AllocError> for Fault {
-    fn from(_e: AllocError) -> Fault {
-        Fault::NoMemory
+    fn from(e: AllocError) -> Fault {
+        Fault::NoMemory(e)
     }
 }
 
 // what found no place in a Vec
 impl<T: Drop> From<AllocFailed<T>> for Fault {
-    fn from(_e: AllocFailed<T>) -> Fault {
-        Fault::NoMemory
+    fn from(e: AllocFailed<T>) -> Fault {
+        Fault::NoMemory(e.into())
     }
 }

@@ -158,10 +158,10 @@ impl Reading {
 pub(crate) fn read_script(heap: Global, input: &[u8]) -> Result<Script, Faulty> {
     let lines = match lines(heap, input) {
         Ok(lines) => lines,
-        Err(_) => {
+        Err(e) => {
             return Err(Faulty {
                 line: 0,
-                fault: Fault::NoMemory,
+                fault: Fault::NoMemory(e),
             });
         }
     };

@@ -1,7 +1,7 @@
 // A force word: a 32-bit number, written as four bytes.
 ghost use Rattle.std.specs.Prelude.{◌≡◌};
 ghost use Rattle.digest.specs.ForceWords.{force_bytes};
-ghost use Rattle.std.proofs.Common.{rules};
+ghost use Rattle.digest.specs.ForceWordsLemmas.{force_nonempty, force_each_byte, force_prefix_free};
 
 use crate::item::Item;
 
@@ -32,11 +32,11 @@ impl ForceWord {
 impl Item for ForceWord {
     ghost bytes = { force_bytes };
 
-    ghost nonempty = { Prim.search rules };
+    ghost nonempty = { force_nonempty };
 
-    ghost each_byte = { Prim.search rules };
+    ghost each_byte = { force_each_byte };
 
-    ghost prefix_free = { Prim.search rules };
+    ghost prefix_free = { force_prefix_free };
 
     fn len(&self) -> usize {
         SIZE
