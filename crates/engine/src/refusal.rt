@@ -1,6 +1,9 @@
 // Every refusal of the product, by its number.
-ghost use Rattle.std.specs.Prelude.{◌≡◌};
-ghost use Rattle.engine.specs.Refusals.{number};
+ghost use Rattle.std.specs.Prelude.{◌≡◌, Some};
+ghost use Rattle.engine.specs.Refusals.{number, refused};
+
+use std::error::Error;
+use std::fmt;
 
 #[derive(Clone, Copy, PartialEq, Eq, Debug)]
 pub enum Refusal {
@@ -48,3 +51,14 @@ impl Refusal {
         }
     }
 }
+
+// A refusal is printed by its number.
+impl fmt::Display for Refusal {
+    ghost output = { λ e. Some (refused e) };
+
+    fn fmt<W: fmt::Write>(&self, f: &mut fmt::Formatter<W>) -> fmt::Result {
+        write!(f, "refused {}", self.number())
+    }
+}
+
+impl Error for Refusal {}
