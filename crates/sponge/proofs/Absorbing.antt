@@ -7,7 +7,7 @@ use Rattle.std.proofs.lemmas.Bool.{cases_eq}
 use Rattle.sponge.specs.Blocks.{rate, last_place, mixed, after_full, absorbed}
 use Rattle.sponge.specs.Steps.{State, at, advanced, absorb_byte, absorb_piece, padded, absorbing}
 use Rattle.sponge.specs.Calls.{Absorbs, Pads}
-use Rattle.sponge.proofs.Advance.{advanced_end, advanced_within, advanced_read}
+use Rattle.sponge.proofs.Advance.{advanced_end, advanced_within}
 
 pub mixed-none : (s : List ℕ) → mixed s [] ≡ s
 unfolding mixed
@@ -115,14 +115,13 @@ module _ (rule : List ℕ → List ℕ) where
   absorb_piece_append p [] b = refl
   absorb_piece_append p (x ∷ a) b = absorb_piece_append (absorb_byte rule p x) a b
 
-  -- a loop over the bytes of a string: one byte more taken in by a call, at a place read modulo the rate
-  pub next_byte : (string : List ℕ) (i b : ℕ) (s t : List ℕ) (place r : ℕ) → i < length string → b ≡ get_or string i 0 → at t r ≡ absorb_byte rule (at s (place % rate)) b → absorb_piece rule (at t (r % rate)) (drop (i + 1) string) ≡ absorb_piece rule (at s (place % rate)) (drop i string)
-  next_byte string i b s t place r within read taken =
-      let here = at s (place % rate) in
+  -- a loop over the bytes of a string: one byte more taken in
+  pub next_byte : (string : List ℕ) (i b : ℕ) (p q : State) → i < length string → b ≡ get_or string i 0 → q ≡ absorb_byte rule p b → absorb_piece rule q (drop (i + 1) string) ≡ absorb_piece rule p (drop i string)
+  next_byte string i b p q within read taken =
       let rest = drop (i + 1) string in
-      ap (λ (p : State). absorb_piece rule p rest) (advanced_read rule t (xored s (place % rate) b) place r taken)
-      ∙ ap (λ (c : ℕ). absorb_piece rule here (c ∷ rest)) read
-      ∙ sym (at_drop_more (absorb_piece rule here) string i 0 within)
+      ap (λ (x : State). absorb_piece rule x rest) taken
+      ∙ ap (λ (c : ℕ). absorb_piece rule p (c ∷ rest)) read
+      ∙ sym (at_drop_more (absorb_piece rule p) string i 0 within)
 
   -- past its last byte
   pub no_byte : (string : List ℕ) (i : ℕ) (p : State) → length string ≤ i → p ≡ absorb_piece rule p (drop i string)

@@ -4,9 +4,9 @@ use Rattle.engine.specs.Strings.{Whole}
 use Rattle.std.proofs.lemmas.List.{append-nil, append_assoc, length-append, length-take-le, take-append-le, take_more, take_more_set, get_or-take, get_or-append_right}
 use Rattle.std.proofs.lemmas.Bool.{cases_eq}
 use Rattle.sponge.specs.Blocks.{rate, squeezed, stream}
-use Rattle.sponge.specs.Steps.{State, at, advanced, squeeze_bytes, squeeze_state, squeezing}
+use Rattle.sponge.specs.Steps.{State, at, byte_of, advanced, squeeze_bytes, squeeze_state, squeezing}
 use Rattle.sponge.specs.Calls.{Squeezes}
-use Rattle.sponge.proofs.Advance.{advanced_end, advanced_within, advanced_read}
+use Rattle.sponge.proofs.Advance.{advanced_end, advanced_within}
 
 module _ (rule : List ℕ → List ℕ) where
   -- the rule applied n times
@@ -104,25 +104,22 @@ module _ (rule : List ℕ → List ℕ) where
         ∙ append_assoc (stream rule s n) (_ ∷ []) (squeeze_bytes rule k (by_blocks s (n + 1)))
         ∙ ap (λ (p : State). stream rule s n ++ get_or (by_blocks s n).string (by_blocks s n).place 0 ∷ squeeze_bytes rule k p) (sym (by_blocks_push s n))
 
-  -- a loop that fills a buffer with n bytes: one byte more, by calls at a place read modulo the rate
-  pub next_out : (out : List ℕ) (n i b : ℕ) (s t : List ℕ) (place r : ℕ) → i < n → length out ≡ n → b ≡ get_or s (place % rate) 0 → at t r ≡ advanced rule (at s (place % rate)) → take (i + 1) (set out i b) ++ squeeze_bytes rule (n - (i + 1)) (at t (r % rate)) ≡ take i out ++ squeeze_bytes rule (n - i) (at s (place % rate))
-  next_out out n i b s t place r within long read moved =
-      let here = at s (place % rate) in
-      let there = at t (r % rate) in
+  -- a loop that fills a buffer with n bytes: one byte more
+  pub next_out : (out : List ℕ) (n i b : ℕ) (p q : State) → i < n → length out ≡ n → b ≡ byte_of p → q ≡ advanced rule p → take (i + 1) (set out i b) ++ squeeze_bytes rule (n - (i + 1)) q ≡ take i out ++ squeeze_bytes rule (n - i) p
+  next_out out n i b p q within long read moved =
       let k = n - (i + 1) in
       let inside : i < length out = omega arith in
       let more : suc k ≡ n - i = omega arith in
-      ap (λ (x : List ℕ). x ++ squeeze_bytes rule k there) (take_more_set out i b inside)
-      ∙ append_assoc (take i out) (b ∷ []) (squeeze_bytes rule k there)
-      ∙ ap (λ (p : State). take i out ++ b ∷ squeeze_bytes rule k p) (advanced_read rule t s place r moved)
-      ∙ ap (λ (x : ℕ). take i out ++ x ∷ squeeze_bytes rule k (advanced rule here)) read
-      ∙ ap (λ (j : ℕ). take i out ++ squeeze_bytes rule j here) more
+      ap (λ (x : List ℕ). x ++ squeeze_bytes rule k q) (take_more_set out i b inside)
+      ∙ append_assoc (take i out) (b ∷ []) (squeeze_bytes rule k q)
+      ∙ ap (λ (r : State). take i out ++ b ∷ squeeze_bytes rule k r) moved
+      ∙ ap (λ (x : ℕ). take i out ++ x ∷ squeeze_bytes rule k (advanced rule p)) read
+      ∙ ap (λ (j : ℕ). take i out ++ squeeze_bytes rule j p) more
 
-  pub next_state : (n i : ℕ) (s t : List ℕ) (place r : ℕ) → i < n → at t r ≡ advanced rule (at s (place % rate)) → squeeze_state rule (n - (i + 1)) (at t (r % rate)) ≡ squeeze_state rule (n - i) (at s (place % rate))
-  next_state n i s t place r within moved =
+  pub next_state : (n i : ℕ) (p q : State) → i < n → q ≡ advanced rule p → squeeze_state rule (n - (i + 1)) q ≡ squeeze_state rule (n - i) p
+  next_state n i p q within moved =
       let more : suc (n - (i + 1)) ≡ n - i = omega arith in
-      ap (squeeze_state rule (n - (i + 1))) (advanced_read rule t s place r moved)
-      ∙ ap (λ (j : ℕ). squeeze_state rule j (at s (place % rate))) more
+      ap (squeeze_state rule (n - (i + 1))) moved ∙ ap (λ (j : ℕ). squeeze_state rule j p) more
 
   -- bytes given out one piece after another are given out in one piece
   squeeze_state_add : (n k : ℕ) (p : State) → squeeze_state rule (n + k) p ≡ squeeze_state rule k (squeeze_state rule n p)

@@ -16,6 +16,14 @@ at s i = record { string = s; place = i }
 abbrev pub standing : {E : Type 0} → (E → List ℕ) → Sponge E → State
 standing meaning p = at (meaning p.engine) (p.place % rate)
 
+-- the byte at the place
+abbrev pub byte_of : State → ℕ
+byte_of p = slice_index p.string p.place
+
+-- the byte at the place changed by xor with b
+abbrev pub xored_in : State → ℕ → State
+xored_in p b = at (xored p.string p.place b) p.place
+
 module _ (rule : List ℕ → List ℕ) where
   -- past a byte of a block: the next place, or, at the block's end, the rule and the first place
   abbrev pub advanced : State → State
@@ -23,7 +31,7 @@ module _ (rule : List ℕ → List ℕ) where
 
   -- one byte taken in
   abbrev pub absorb_byte : State → ℕ → State
-  absorb_byte p b = advanced (at (xored p.string p.place b) p.place)
+  absorb_byte p b = advanced (xored_in p b)
 
   -- the bytes of a piece taken in, one after another
   abbrev pub absorb_piece : State → List ℕ → State
@@ -37,7 +45,7 @@ module _ (rule : List ℕ → List ℕ) where
   -- the next n bytes out
   abbrev pub squeeze_bytes : ℕ → State → List ℕ
   squeeze_bytes zero p = []
-  squeeze_bytes (suc n) p = slice_index p.string p.place ∷ squeeze_bytes n (advanced p)
+  squeeze_bytes (suc n) p = byte_of p ∷ squeeze_bytes n (advanced p)
 
   -- what n bytes out leave
   abbrev pub squeeze_state : ℕ → State → State

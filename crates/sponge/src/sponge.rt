@@ -1,16 +1,19 @@
 // A sponge moves from call to call, and holds its engine by value.
-ghost use Rattle.std.specs.Prelude.{◌≡◌, ◌%◌};
+// It is lent to the calls for one byte: moved at each byte, it would be copied at each byte.
+ghost use Rattle.std.specs.Prelude.{◌≡◌, ◌<◌};
 ghost use Rattle.engine.specs.Strings.{zeros};
 ghost use Rattle.sponge.specs.Blocks.{rate};
 ghost use Rattle.sponge.specs.Calls.{Absorbs, Pads, Squeezes};
-ghost use Rattle.sponge.specs.Steps.{at, standing, padded};
+ghost use Rattle.sponge.specs.Steps.{at, standing, byte_of, xored_in, advanced, absorb_byte};
 
-use crate::block::{absorb_byte, advance, byte_at, xor_in};
 use engine::engine::{Engine, WIDTH};
+
+// The number of bytes in a full block.
+pub const RATE: usize = 16;
 
 pub struct Sponge<E> {
     pub engine: E,
-    // where the next byte goes, or comes from; read modulo the rate
+    // where the next byte goes, or comes from; read modulo the rate, so no place is refused
     pub place: usize,
 }
 
@@ -26,30 +29,35 @@ impl<E: Engine> Sponge<E> {
     }
 
     // Takes in the next piece of a string.
-    pub fn absorb(self, piece: &[u8]) -> Sponge<E>
+    pub fn absorb(mut self, piece: &[u8]) -> Sponge<E>
         ensures { Absorbs E.rule (standing E.meaning self) piece.now (standing E.meaning result) }
     {
-        let Sponge { mut engine, place } = self;
-        let place = absorb_bytes(&mut engine, place, piece);
-        Sponge { engine, place }
+        for &b in piece {
+            self.absorb_byte(b);
+        }
+        self
     }
 
     // Ends the last block of a string.
-    pub fn pad(self) -> Sponge<E>
+    pub fn pad(mut self) -> Sponge<E>
         ensures { Pads E.rule (standing E.meaning self) (standing E.meaning result) }
     {
-        let Sponge { mut engine, place } = self;
-        let place = end_block(&mut engine, place);
-        Sponge { engine, place }
+        self.xor_in(1);
+        self.engine.xor_byte(WIDTH - 1, 1).unwrap();
+        self.engine.permute();
+        self.place = 0;
+        self
     }
 
     // Fills a buffer with the next bytes that the state gives.
-    pub fn squeeze(self, out: &mut [u8]) -> Sponge<E>
+    pub fn squeeze(mut self, out: &mut [u8]) -> Sponge<E>
         ensures { Squeezes E.rule (standing E.meaning self) out.new (standing E.meaning result) }
     {
-        let Sponge { mut engine, place } = self;
-        let place = squeeze_bytes(&mut engine, place, out);
-        Sponge { engine, place }
+        for b in out.iter_mut() {
+            *b = self.byte();
+            self.advance();
+        }
+        self
     }
 
     // The engine, cleared.
@@ -59,6 +67,40 @@ impl<E: Engine> Sponge<E> {
         let Sponge { engine, place: _ } = self;
         cleared(engine)
     }
+
+    // Changes the byte at the place by xor with b.
+    pub fn xor_in(&mut self, b: u8)
+        ensures { standing E.meaning self.new ≡ xored_in (standing E.meaning self.old) b }
+    {
+        self.engine.xor_byte(self.place % RATE, b).unwrap();
+    }
+
+    // The byte at the place.
+    pub fn byte(&self) -> u8
+        ensures { result ≡ byte_of (standing E.meaning self.now) }
+    {
+        self.engine.byte(self.place % RATE).unwrap()
+    }
+
+    // Goes past the place. A full block is followed by the permutation.
+    pub fn advance(&mut self)
+        ensures state { standing E.meaning self.new ≡ advanced E.rule (standing E.meaning self.old) }
+        ensures in_block { self.new.place < rate }
+    {
+        self.place = (self.place % RATE + 1) % RATE;
+        if self.place == 0 {
+            self.engine.permute();
+        }
+    }
+
+    // Takes in one byte.
+    pub fn absorb_byte(&mut self, b: u8)
+        ensures state { standing E.meaning self.new ≡ absorb_byte E.rule (standing E.meaning self.old) b }
+        ensures in_block { self.new.place < rate }
+    {
+        self.xor_in(b);
+        self.advance();
+    }
 }
 
 fn cleared<E: Engine>(mut engine: E) -> E
@@ -66,35 +108,4 @@ fn cleared<E: Engine>(mut engine: E) -> E
 {
     engine.clear();
     engine
-}
-
-// Below the engine is lent, since a sponge that moves at each byte would be copied at each byte.
-// Each takes the place in the block, and answers the next one.
-
-fn absorb_bytes<E: Engine>(engine: &mut E, mut place: usize, piece: &[u8]) -> usize
-    ensures { Absorbs E.rule (at (E.meaning engine.old) (place % rate)) piece.now (at (E.meaning engine.new) (result % rate)) }
-{
-    for b in piece {
-        place = absorb_byte(engine, place, *b);
-    }
-    place
-}
-
-fn end_block<E: Engine>(engine: &mut E, place: usize) -> usize
-    ensures { at (E.meaning engine.new) (result % rate) ≡ padded E.rule (at (E.meaning engine.old) (place % rate)) }
-{
-    xor_in(engine, place, 1);
-    let _ = engine.xor_byte(WIDTH - 1, 1);
-    engine.permute();
-    0
-}
-
-fn squeeze_bytes<E: Engine>(engine: &mut E, mut place: usize, out: &mut [u8]) -> usize
-    ensures { Squeezes E.rule (at (E.meaning engine.old) (place % rate)) out.new (at (E.meaning engine.new) (result % rate)) }
-{
-    for b in out.iter_mut() {
-        *b = byte_at(engine, place);
-        place = advance(engine, place);
-    }
-    place
 }
