@@ -1,9 +1,9 @@
 -- The string of a note, by its places.
-use Rattle.std.specs.Prelude.{◌≡◌, ℕ, zero, suc, ◌+◌, ◌-◌, ◌%◌, ◌<◌, ◌≤◌, List, ◌∷◌, ◌++◌, map, length, replicate, slice_index, refl}
+use Rattle.std.specs.Prelude.{◌≡◌, ℕ, zero, suc, ◌+◌, ◌-◌, ◌%◌, ◌<◌, ◌≤◌, List, ◌∷◌, ◌++◌, map, length, take, replicate, slice_index, refl}
 use Rattle.std.proofs.Common.{sym, ap, ◌∙◌, inl, inr, arith}
 use Rattle.std.specs.List.{range_with_len}
 use Rattle.std.proofs.lemmas.List.FromFn.{length-map-range_with_len, get_or-map-range_with_len, fill_by_all}
-use Rattle.std.proofs.lemmas.List.{get_or_append_left, get_or_past}
+use Rattle.std.proofs.lemmas.List.{get_or_append_left, get_or_past, get_or-take, length-take-le}
 use Rattle.std.proofs.lemmas.Bool.{cases_lt}
 use Rattle.digest.specs.Notes.{longest, text_len, text_bytes, note_bytes, noted}
 use Rattle.digest.specs.declared.note.Note.{Note}
@@ -17,14 +17,18 @@ pub length-text : (n : Note) → length (text_bytes n) ≡ text_len n
 unfolding text_bytes
 length-text n = length-map-range_with_len (letter n) 0 (text_len n)
 
+-- the string of a note whose text's numbers are bytes
+pub note_bytes-take : (n : Note) → longest ≤ length n.text → ((i : ℕ) → slice_index (take (text_len n) n.text) i < 256) → note_bytes n ≡ text_len n ∷ take (text_len n) n.text
+unfolding text_bytes
+note_bytes-take n long small =
+    let text = take (text_len n) n.text in
+    let letters : text ≡ text_bytes n =
+    fill_by_all (letter n) text (text_len n) 0 (length-take-le (text_len n) n.text (omega arith))
+    (λ i h. let kept = get_or-take (text_len n) n.text i 0 h in let byte = small i in omega arith) in
+    ap (λ (s : List ℕ). text_len n ∷ s) (sym letters)
+
 pub length_note : (n : Note) → length (note_bytes n) ≡ text_len n + 1
 length_note n = let e = length-text n in omega arith
-
-pub get_or_note : (n : Note) (i : ℕ) → i < text_len n → slice_index (note_bytes n) (i + 1) ≡ letter n i
-unfolding text_bytes
-get_or_note n i h =
-    let e : i + 1 ≡ suc i = omega arith in
-    ap (λ (k : ℕ). slice_index (note_bytes n) k) e ∙ get_or-map-range_with_len (letter n) 0 (text_len n) i i 0 h (omega arith)
 
 pub note_each_byte : (n : Note) (i : ℕ) → slice_index (note_bytes n) i < 256
 unfolding text_bytes

@@ -1,17 +1,14 @@
 // The first part of a digest: a string is fed, in pieces and in lists of items.
-ghost use Rattle.std.specs.Prelude.{◌≡◌, ℕ, ◌%◌, List, [], ◌++◌};
+ghost use Rattle.std.specs.Prelude.{◌≡◌, ℕ, List, [], ◌++◌};
 ghost use Rattle.std.specs.List.{flat_map};
 ghost use Rattle.engine.specs.Strings.{zeros};
-ghost use Rattle.sponge.specs.Blocks.{rate};
-ghost use Rattle.sponge.specs.Calls.{Absorbs};
-ghost use Rattle.sponge.specs.Steps.{at, standing, absorb_piece, padded};
+ghost use Rattle.sponge.specs.Steps.{standing, absorb_piece, padded};
 ghost use Rattle.digest.specs.Digests.{Fed, Drawn};
 ghost use Rattle.digest.specs.Items.{Told};
 
 use crate::drawing::Drawing;
 use crate::item::Item;
 use engine::engine::Engine;
-use sponge::block::absorb_byte;
 use sponge::sponge::Sponge;
 
 pub struct Feeding<E> {
@@ -40,17 +37,15 @@ impl<E: Engine> Feeding<E> {
     }
 
     // Feeds the strings of items of one kind, one after another.
-    pub fn feed_list<I: Item>(self, items: &[I]) -> Feeding<E>
+    pub fn feed_list<I: Item>(mut self, items: &[I]) -> Feeding<E>
         ensures state { standing E.meaning result.sponge ≡ absorb_piece E.rule (standing E.meaning self.sponge) (flat_map I.bytes items.now) }
         ensures fed { (m : List ℕ) → Fed E.meaning E.rule self m → Fed E.meaning E.rule result (m ++ flat_map I.bytes items.now) }
         ensures told { Told I.bytes items.now }
     {
-        let Feeding { sponge } = self;
-        let Sponge { mut engine, place } = sponge;
-        let place = feed_items(&mut engine, place, items);
-        Feeding {
-            sponge: Sponge { engine, place },
+        for item in items {
+            self.feed_item(item);
         }
+        self
     }
 
     // Ends the string.
@@ -71,26 +66,14 @@ impl<E: Engine> Feeding<E> {
         let Feeding { sponge } = self;
         sponge.into_engine()
     }
-}
 
-// Below the engine is lent, and not moved at each byte. Each takes the place in the block, and answers the next one.
-
-fn feed_items<E: Engine, I: Item>(engine: &mut E, mut place: usize, items: &[I]) -> usize
-    ensures absorbs { Absorbs E.rule (at (E.meaning engine.old) (place % rate)) (flat_map I.bytes items.now) (at (E.meaning engine.new) (result % rate)) }
-    ensures told { Told I.bytes items.now }
-{
-    for i in 0..items.len() {
-        place = feed_item(engine, place, &items[i]);
+    // Feeds the string of one item. Lent, since a digest that moves at each item would be copied at each item.
+    fn feed_item<I: Item>(&mut self, item: &I)
+        ensures { standing E.meaning self.new.sponge ≡ absorb_piece E.rule (standing E.meaning self.old.sponge) (I.bytes item.now) }
+    {
+        // an item gives its bytes by their places
+        for place in 0..item.len() {
+            self.sponge.absorb_byte(item.byte(place).unwrap());
+        }
     }
-    place
-}
-
-fn feed_item<E: Engine, I: Item>(engine: &mut E, mut place: usize, item: &I) -> usize
-    ensures { at (E.meaning engine.new) (result % rate) ≡ absorb_piece E.rule (at (E.meaning engine.old) (place % rate)) (I.bytes item.now) }
-{
-    for i in 0..item.len() {
-        let Some(b) = item.byte(i) else { unreachable() };
-        place = absorb_byte(engine, place, b);
-    }
-    place
 }

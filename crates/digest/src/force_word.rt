@@ -43,10 +43,6 @@ impl Item for ForceWord {
     }
 
     fn byte(&self, place: usize) -> Option<u8> {
-        if place < SIZE {
-            Some(((self.number() >> (8 * place)) % 256) as u8)
-        } else {
-            None
-        }
+        self.number().to_le_bytes().get(place).copied()
     }
 }

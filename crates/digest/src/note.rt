@@ -1,6 +1,6 @@
 // A note: a length byte, and a text of that many bytes.
-ghost use Rattle.std.specs.Prelude.{◌≡◌, ◌-◌, ◌≤◌, ◌++◌, length, replicate};
-ghost use Rattle.digest.specs.Notes.{longest, text_len, text_bytes, note_bytes, Noted};
+ghost use Rattle.std.specs.Prelude.{◌≡◌, take};
+ghost use Rattle.digest.specs.Notes.{text_len, note_bytes, Noted};
 ghost use Rattle.digest.specs.NotesLemmas.{note_nonempty, note_each_byte, note_prefix_free};
 
 use crate::item::Item;
@@ -24,29 +24,20 @@ impl Note {
         if text.len() > LONGEST {
             return Err(Refusal::NoteLength);
         }
+        let mut all = [0; LONGEST];
+        all[..text.len()].copy_from_slice(text);
         Ok(Note {
             len: text.len() as u8,
-            text: with_zeros(text),
+            text: all,
         })
     }
 
-    // The number of bytes in the text.
-    fn text_len(&self) -> usize
-        ensures number { result ≡ text_len self.now }
-        ensures long { result ≡ length (text_bytes self.now) }
+    // The text: its length is read as at most 28.
+    fn text(&self) -> &[u8]
+        ensures { result.now ≡ take (text_len self.now) self.now.text }
     {
-        LONGEST.min(self.len as usize)
+        &self.text[..LONGEST.min(self.len as usize)]
     }
-}
-
-// A text of at most 28 bytes, followed by zeros.
-fn with_zeros(text: &[u8]) -> [u8; LONGEST]
-    requires { length text.now ≤ longest }
-    ensures { result ≡ text.now ++ replicate (longest - length text.now) 0 }
-{
-    let mut all = [0; LONGEST];
-    all[0..text.len()].copy_from_slice(text);
-    all
 }
 
 impl Item for Note {
@@ -59,17 +50,14 @@ impl Item for Note {
     ghost prefix_free = { note_prefix_free };
 
     fn len(&self) -> usize {
-        1 + self.text_len()
+        1 + self.text().len()
     }
 
     fn byte(&self, place: usize) -> Option<u8> {
-        let len = self.text_len();
-        if place == 0 {
-            Some(len as u8)
-        } else if place <= len {
-            Some(self.text[place - 1])
-        } else {
-            None
+        let text = self.text();
+        match place.checked_sub(1) {
+            None => Some(text.len() as u8),
+            Some(i) => text.get(i).copied(),
         }
     }
 }

@@ -14,8 +14,11 @@ pub fn digest_string<E: Engine>(engine: E, string: &[u8], out: &mut [u8]) -> E
     ensures bytes { out.new ≡ output E.rule string.now (length out.new) }
     ensures cleared { E.meaning result ≡ zeros }
 {
-    let drawing = Feeding::begin(engine).feed(string).end_feeding();
-    drawing.draw(out).release()
+    Feeding::begin(engine)
+        .feed(string)
+        .end_feeding()
+        .draw(out)
+        .release()
 }
 
 // The hash of a string. The engine comes back cleared.
@@ -28,7 +31,7 @@ pub fn hash_string<E: Engine>(engine: E, string: &[u8]) -> (E, [u8; HASH_LEN])
     (engine, out)
 }
 
-// The long outputs of two records, on one engine. What is to be fed after the end of the first begins the second.
+// The long outputs of two records, one after the other, on one engine.
 pub fn digest_two<E: Engine>(
     engine: E,
     first: &[u8],
@@ -40,10 +43,6 @@ pub fn digest_two<E: Engine>(
     ensures second_bytes { second_out.new ≡ output E.rule second.now (length second_out.new) }
     ensures cleared { E.meaning result ≡ zeros }
 {
-    let drawing = Feeding::begin(engine)
-        .feed(first)
-        .end_feeding()
-        .draw(first_out);
-    let feeding = Feeding::begin(drawing.release()).feed(second);
-    feeding.end_feeding().draw(second_out).release()
+    let engine = digest_string(engine, first, first_out);
+    digest_string(engine, second, second_out)
 }

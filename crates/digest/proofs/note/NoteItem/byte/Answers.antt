@@ -1,18 +1,12 @@
-use Rattle.std.proofs.Common.{◌≡◌, ℕ, ◌+◌, ◌-◌, ◌%◌, ◌<◌, get_or, sym, ap, ◌∙◌, arith, rules}
-use Rattle.digest.specs.Notes.{note_bytes}
-use Rattle.digest.specs.NotesLemmas.{length_note, get_or_note}
+use Rattle.std.proofs.Common.{◌≡◌, ℕ, ◌+◌, ◌<◌, ◌∷◌, ◌∙◌, sym, get_or, take, ap, arith, rules}
+use Rattle.digest.specs.Notes.{text_len, note_bytes}
+use Rattle.digest.specs.NotesLemmas.{note_bytes-take}
 use Rattle.digest.proofs.note.NoteItem.byte.Goals as goal
 
-pub returns-then-place-len : goal.returns-then-place-len
-returns-then-place-len c =
+pub returns-in-Some : goal.returns-in-Some
+returns-in-Some c =
     let n = c.args.self.now in
-    let place = c.args.place in
-    let long = length_note n in
-    let letter = get_or_note n (place - 1) (omega arith) in
-    let next : place - 1 + 1 ≡ place = omega arith in
-    let small : get_or n.text (place - 1) 0 < 256 = search rules in
-    let whole : get_or n.text (place - 1) 0 ≡ get_or n.text (place - 1) 0 % 256 = omega arith in
-    (omega arith, whole ∙ sym letter ∙ ap (λ (i : ℕ). get_or (note_bytes n) i 0) next)
-
-pub returns-else-place-len : goal.returns-else-place-len
-returns-else-place-len c = let long = length_note c.args.self.now in omega arith
+    let small : (i : ℕ) → get_or (take (text_len n) n.text) i 0 < 256 = λ i. rw (← c.text-text.ensures) (search rules) in
+    let string : note_bytes n ≡ text_len n ∷ c.text-text.result.now = note_bytes-take n (search rules) small ∙ ap (λ s. text_len n ∷ s) (sym c.text-text.ensures) in
+    let next : c.args.place ≡ c.in-Some.i + 1 = omega arith in
+    rw (string, next) (search rules)
