@@ -23,17 +23,6 @@ pub fn hex_byte(high: char, low: char) -> Option<u8>
     Some(16 * hex_digit(high)? + hex_digit(low)?)
 }
 
-// The character of a hex digit.
-fn digit_char(value: u8) -> char
-    requires { value < 16 }
-    ensures { result ≡ digit value }
-{
-    match value {
-        0..=9 => (b'0' + value) as char,
-        _ => (b'a' + (value - 10)) as char,
-    }
-}
-
 // A byte that is shown as two hex digits.
 #[derive(Clone, Copy)]
 pub struct HexByte(pub u8);
@@ -42,8 +31,7 @@ impl fmt::Display for HexByte {
     ghost output = { λ b. Some (pair b.0) };
 
     fn fmt<W: fmt::Write>(&self, f: &mut fmt::Formatter<W>) -> fmt::Result {
-        let high = digit_char(self.0 / 16);
-        let low = digit_char(self.0 % 16);
-        write!(f, "{high}{low}")
+        let HexByte(value) = *self;
+        write!(f, "{value:02x}")
     }
 }

@@ -1,26 +1,34 @@
 // Strings, read from their hex digits.
-ghost use Rattle.std.specs.Prelude.{IfOk};
+ghost use Rattle.std.specs.Prelude.{IfOk, length};
 ghost use Rattle.hex_text.specs.Hex.{hex};
-ghost use Rattle.hex_text.specs.Readers.{ReadsString};
+ghost use Rattle.hex_text.specs.Readers.{ReadsInto, ReadsString};
 
 use crate::digits::hex_byte;
 use std::alloc::{AllocError, Global};
+
+// Fills a string of known length with the bytes that are written in these digits.
+// Where they are not the digits of such a string, what stands in it is left open.
+pub fn fill_string(digits: &[u8], string: &mut [u8]) -> Option<()>
+    ensures { ReadsInto hex (length string.old) digits.now result string.new }
+{
+    let mut rest = digits;
+    for b in string.iter_mut() {
+        let [high, low, after @ ..] = rest else {
+            return None;
+        };
+        *b = hex_byte(*high as char, *low as char)?;
+        rest = after;
+    }
+    rest.is_empty().then_some(())
+}
 
 // The string that is written in these digits.
 pub fn read_string(heap: Global, digits: &[u8]) -> Result<Option<Vec<u8>>, AllocError>
     ensures { IfOk result (ReadsString hex digits.now) }
 {
-    if digits.len() % 2 != 0 {
+    let mut string = vec![in heap; 0; digits.len() / 2]?;
+    let Some(()) = fill_string(digits, &mut string) else {
         return Ok(None);
-    }
-    let mut string = Vec::new(heap);
-    for place in 0..digits.len() / 2 {
-        let high = digits[2 * place] as char;
-        let low = digits[2 * place + 1] as char;
-        let Some(b) = hex_byte(high, low) else {
-            return Ok(None);
-        };
-        string.push(b)?;
-    }
+    };
     Ok(Some(string))
 }
