@@ -1,3 +1,2 @@
-mod Strings
 mod Requests
 mod Screens

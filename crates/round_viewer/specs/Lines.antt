@@ -1,10 +1,10 @@
 -- What is shown: a state as three lines, or a refusal as one.
-use Rattle.std.specs.Prelude.{ℕ, ◌/◌, ◌%◌, ◌^◌, List, [], ◌∷◌, ◌++◌, codes, decimal, slice_index}
-use Rattle.engine.specs.Refusals.{number}
+use Rattle.std.specs.Prelude.{ℕ, ◌/◌, ◌%◌, ◌^◌, List, [], ◌∷◌, ◌++◌, Ok, Err, Result, codes, slice_index}
+use Rattle.engine.specs.Refusals.{refused}
+use Rattle.engine.specs.declared.refusal.Refusal.{Refusal}
 use Rattle.gimli.specs.declared.state.State.{State}
 use Rattle.hex_text.specs.Hex.{hex}
 use Rattle.round_viewer.specs.declared.view.Screen.{Screen}
-use Rattle.round_viewer.specs.declared.view.Screen.TheVariants.{Rows, Refused}
 
 -- the eight hex digits of a word, the highest first
 abbrev pub word : ℕ → List ℕ
@@ -18,11 +18,11 @@ line r = word (slice_index r 0) ++ 32 ∷ word (slice_index r 1) ++ 32 ∷ word 
 abbrev pub lines : State → List ℕ
 lines s = line s.top ++ line s.middle ++ line s.bottom
 
--- a refusal, by its number
-abbrev pub refusal : ℕ → List ℕ
-refusal n = codes "refused " ++ decimal n ++ codes "\n"
+-- the state that is answered, by its lines, or the refusal in one line
+abbrev pub answer_text : Result State Refusal → List ℕ
+answer_text (Ok s) = lines s
+answer_text (Err e) = refused e ++ codes "\n"
 
 -- a screen as it is displayed
 abbrev pub text : Screen → List ℕ
-text (Rows s) = lines s
-text (Refused r) = refusal (number r)
+text s = answer_text s.0

@@ -3,7 +3,7 @@ ghost use Rattle.std.specs.Prelude.{Some};
 ghost use Rattle.round_viewer.specs.Lines.{word, line, text};
 
 use crate::view::Screen;
-use hex_text::digits::HexByte;
+use hex_text::showing::Hex;
 use std::fmt;
 
 // A word that is shown as eight hex digits.
@@ -14,9 +14,7 @@ impl fmt::Display for HexWord {
     ghost output = { λ w. Some (word w.0) };
 
     fn fmt<W: fmt::Write>(&self, f: &mut fmt::Formatter<W>) -> fmt::Result {
-        let [a, b, c, d] = self.0.to_be_bytes();
-        let (a, b, c, d) = (HexByte(a), HexByte(b), HexByte(c), HexByte(d));
-        write!(f, "{a}{b}{c}{d}")
+        write!(f, "{}", Hex(&self.0.to_be_bytes()))
     }
 }
 
@@ -28,8 +26,7 @@ impl fmt::Display for Line {
     ghost output = { λ r. Some (line r.0) };
 
     fn fmt<W: fmt::Write>(&self, f: &mut fmt::Formatter<W>) -> fmt::Result {
-        let [a, b, c, d] = self.0;
-        let (a, b, c, d) = (HexWord(a), HexWord(b), HexWord(c), HexWord(d));
+        let [a, b, c, d] = self.0.map(HexWord);
         writeln!(f, "{a} {b} {c} {d}")
     }
 }
@@ -38,9 +35,9 @@ impl fmt::Display for Screen {
     ghost output = { λ s. Some (text s) };
 
     fn fmt<W: fmt::Write>(&self, f: &mut fmt::Formatter<W>) -> fmt::Result {
-        match self {
-            Screen::Rows(s) => write!(f, "{}{}{}", Line(s.top), Line(s.middle), Line(s.bottom)),
-            Screen::Refused(refusal) => writeln!(f, "refused {}", refusal.number()),
+        match self.0 {
+            Ok(s) => write!(f, "{}{}{}", Line(s.top), Line(s.middle), Line(s.bottom)),
+            Err(refusal) => writeln!(f, "{refusal}"),
         }
     }
 }

@@ -1,7 +1,7 @@
 // The round viewer: a request on standard input, the state after its rounds on standard output.
 #![tactic(auto)]
 
-ghost use Rattle.std.specs.Prelude.{◌≤◌, take, IfOk};
+ghost use Rattle.std.specs.Prelude.{◌≡◌, take, IfOk, IfSome};
 ghost use Rattle.round_viewer.specs.Lines.{text};
 ghost use Rattle.round_viewer.specs.Views.{Views};
 
@@ -12,39 +12,32 @@ mod tests;
 mod view;
 
 use request::LENGTH;
+use std::alloc::Global;
 use std::io;
 use std::io::Read;
 use view::{Screen, view};
 
 // 101, a byte more than a request has: an input of so many bytes is too long.
-const LIMIT: usize = LENGTH + 1;
+const LIMIT: u64 = LENGTH as u64 + 1;
 
-// Reads standard input up to its end or the buffer's, and gives the number of bytes read. Each turn reads a byte or is the last.
-fn read_input(rt: &HostRuntime, buffer: &mut [u8; LIMIT]) -> io::Result<usize>
-    ensures { IfOk result (λ filled. filled ≤ 101) }
+// Reads an input up to its end, or up to the byte by which it is too long.
+fn read_input<R: Read + Drop>(heap: Global, input: R) -> io::Result<Vec<u8>>
+    ensures { IfOk result (λ bytes. IfSome (R.remaining input) (λ all. bytes.items ≡ take 101 all)) }
 {
-    let mut stdin = rt.stdin();
-    let mut filled = 0;
-    for _ in 0..LIMIT {
-        let got = stdin.read(&mut buffer[filled..])?;
-        if got == 0 {
-            break;
-        }
-        filled += got;
-    }
-    Ok(filled)
+    let mut bytes = Vec::new(heap);
+    input.take(LIMIT).read_to_end(&mut bytes)?;
+    Ok(bytes)
 }
 
-// What to show for the bytes that were read.
-fn shown(buffer: &[u8; LIMIT], filled: usize) -> Screen
-    requires { filled ≤ 101 }
-    ensures { Views (take filled buffer.now) (text result) }
+// What to show for an input, the whole of it.
+fn shown<R: Read + Drop>(heap: Global, input: R) -> io::Result<Screen>
+    ensures { IfOk result (λ screen. IfSome (R.remaining input) (λ all. Views all (text screen))) }
 {
-    view(&buffer[0..filled])
+    let bytes = read_input(heap, input)?;
+    Ok(view(&bytes))
 }
 
 fn main(rt: HostRuntime) -> io::Result<()> {
-    let mut buffer = [0; LIMIT];
-    let filled = read_input(&rt, &mut buffer)?;
-    rt.print(shown(&buffer, filled))
+    let screen = shown(rt.alloc(), rt.stdin())?;
+    rt.print(screen)
 }

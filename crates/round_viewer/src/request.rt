@@ -7,7 +7,7 @@ ghost use Rattle.round_viewer.specs.Requests.{Rounds, decimal};
 ghost use Rattle.round_viewer.specs.Readers.{Parts, Parses};
 
 use engine::engine::WIDTH;
-use hex_text::digits::hex_byte;
+use hex_text::reading::fill_string;
 
 // The bytes of a request: two decimal digits, a space, two hex digits for each byte of the string, a newline.
 pub const LENGTH: usize = 4 + 2 * WIDTH;
@@ -23,15 +23,8 @@ pub struct Request {
 fn hex_string(digits: &[u8]) -> Option<[u8; WIDTH]>
     ensures { Reads Whole hex digits.now result }
 {
-    if digits.len() != 2 * WIDTH {
-        return None;
-    }
     let mut string = [0; WIDTH];
-    for place in 0..WIDTH {
-        let high = digits[2 * place] as char;
-        let low = digits[2 * place + 1] as char;
-        string[place] = hex_byte(high, low)?;
-    }
+    fill_string(digits, &mut string)?;
     Some(string)
 }
 

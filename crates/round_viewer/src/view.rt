@@ -7,11 +7,9 @@ use engine::refusal::Refusal;
 use gimli::rounds::first_rounds;
 use gimli::state::State;
 
+// The answer to an input, to be displayed: every byte of the output.
 #[derive(Clone, Copy)]
-pub enum Screen {
-    Rows(State),
-    Refused(Refusal),
-}
+pub struct Screen(pub Result<State, Refusal>);
 
 // The state that the input asks for.
 fn answer(input: &[u8]) -> Result<State, Refusal>
@@ -22,12 +20,9 @@ fn answer(input: &[u8]) -> Result<State, Refusal>
     Ok(first_rounds(start, request.rounds))
 }
 
-// What to show for an input, whatever it is; displayed, it is every byte of the output.
+// What to show for an input, whatever it is.
 pub fn view(input: &[u8]) -> Screen
     ensures { Views input.now (text result) }
 {
-    match answer(input) {
-        Ok(state) => Screen::Rows(state),
-        Err(refusal) => Screen::Refused(refusal),
-    }
+    Screen(answer(input))
 }
