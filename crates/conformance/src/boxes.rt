@@ -1,17 +1,17 @@
-// An aead vector, on any engine: sealed and opened, whole and cut, and refused with one bit flipped.
-ghost use Rattle.std.specs.Prelude.{◌<◌};
-
+// An aead vector, on any engine and on the reference: sealed and opened, whole and cut, and refused with one bit flipped.
+use crate::difference::Difference;
 use crate::vector::AeadVector;
 use cipher::book::{IssuedNonce, NonceBook};
 use cipher::key::Key;
 use cipher::nonce::BoxNonce;
 use cipher::opening::Opening;
 use cipher::record::seal_message;
-use cipher::sealing::{Sealing, TAG_LEN};
+use cipher::sealing::{ClosedSealing, Sealing, TAG_LEN};
 use engine::engine::Engine;
 use engine::refusal::Refusal;
 use reference::cipher::{open, seal};
 use std::alloc::{AllocError, Global};
+use std::num::NonZeroUsize;
 
 // The key of every vector.
 pub const KEY: [u8; 32] = [
@@ -26,228 +26,128 @@ const FIRST_COUNT: u32 = 0x0f0e_0d0c;
 
 // The vectors' nonce, as a book issues it.
 pub fn issued_nonce() -> Result<IssuedNonce, Refusal> {
-    let mut book = NonceBook::new(&NONCE[0..12], FIRST_COUNT)?;
-    book.issue()
+    NonceBook::new(&NONCE[0..12], FIRST_COUNT)?.issue()
 }
 
-// Whether a ciphertext and a tag are a box.
-pub fn is_box(text: &[u8], tag: &[u8], sealed: &[u8]) -> bool {
-    if text.len() > sealed.len() {
-        return false;
+// An engine with the key of the vectors, and the memory for what comes out.
+#[derive(Clone, Copy)]
+pub(crate) struct Bench<'a, E> {
+    pub(crate) heap: Global,
+    pub(crate) engine: E,
+    pub(crate) key: &'a Key,
+}
+
+impl<E: Engine + Copy> Bench<'_, E> {
+    // Whether the message in one piece gives the box.
+    fn seals_whole(&self, v: &AeadVector) -> Result<bool, AllocError> {
+        let message = v.message.as_slice();
+        let mut text = vec![in self.heap; 0; message.len()]?;
+        let mut tag = [0; TAG_LEN];
+        let Ok(nonce) = issued_nonce() else {
+            return Ok(false);
+        };
+        let (_, answer) = seal_message(
+            self.engine,
+            self.key,
+            nonce,
+            v.ad.as_slice(),
+            message,
+            text.as_mut_slice(),
+            &mut tag,
+        );
+        Ok(answer == Ok(message.len()) && v.sealed.strip_prefix(&text) == Some(&tag))
     }
-    let (front, back) = sealed.split_at(text.len());
-    front == text && back == tag
-}
 
-// Whether an answer is a number of bytes.
-fn is_count(answer: Result<usize, Refusal>, n: usize) -> bool {
-    match answer {
-        Ok(count) => count == n,
-        Err(_) => false,
+    // A sealing whose associated data comes in pieces of a size.
+    fn sealing_cut(&self, nonce: IssuedNonce, ad: &[u8], size: NonZeroUsize) -> ClosedSealing<E> {
+        let mut sealing = Sealing::start(self.engine, self.key, nonce);
+        for piece in ad.chunks(size.get()) {
+            sealing = sealing.add(piece);
+        }
+        sealing.close()
     }
-}
 
-fn seals_whole<E: Engine + Copy>(
-    heap: Global,
-    engine: E,
-    key: &Key,
-    v: &AeadVector,
-) -> Result<bool, AllocError> {
-    let message = v.message.as_slice();
-    let mut text = vec![in heap; 0; message.len()]?;
-    let mut tag = [0; TAG_LEN];
-    let Ok(nonce) = issued_nonce() else {
-        return Ok(false);
-    };
-    let ad = v.ad.as_slice();
-    let (_, answer) = seal_message(
-        engine,
-        key,
-        nonce,
-        ad,
-        message,
-        text.as_mut_slice(),
-        &mut tag,
-    );
-    Ok(is_count(answer, message.len()) && is_box(text.as_slice(), &tag, v.sealed.as_slice()))
-}
-
-fn sealing_cut<E: Engine>(
-    engine: E,
-    key: &Key,
-    nonce: IssuedNonce,
-    ad: &[u8],
-    size: usize,
-) -> Sealing<E>
-    requires { 0 < size }
-{
-    let mut sealing = Sealing::start(engine, key, nonce);
-    for piece in ad.chunks(size) {
-        sealing = sealing.add(piece);
+    // Whether associated data and message, in pieces of a size, give the box.
+    fn seals_cut(&self, v: &AeadVector, size: NonZeroUsize) -> Result<bool, AllocError> {
+        let message = v.message.as_slice();
+        let mut text = vec![in self.heap; 0; message.len()]?;
+        let mut tag = [0; TAG_LEN];
+        let Ok(nonce) = issued_nonce() else {
+            return Ok(false);
+        };
+        let mut wrote = true;
+        let mut closed = self.sealing_cut(nonce, v.ad.as_slice(), size);
+        let pieces = message.chunks(size.get());
+        for (piece, room) in pieces.zip(text.chunks_mut(size.get())) {
+            let (next, answer) = closed.write(piece, room);
+            closed = next;
+            wrote &= answer == Ok(piece.len());
+        }
+        let _ = closed.finish(&mut tag);
+        Ok(wrote && v.sealed.strip_prefix(&text) == Some(&tag))
     }
-    sealing
-}
 
-// Whether associated data and message, in pieces of a size, give the box.
-fn seals_cut<E: Engine + Copy>(
-    heap: Global,
-    engine: E,
-    key: &Key,
-    v: &AeadVector,
-    size: usize,
-) -> Result<bool, AllocError>
-    requires { 0 < size }
-{
-    let message = v.message.as_slice();
-    let mut text = vec![in heap; 0; message.len()]?;
-    let mut tag = [0; TAG_LEN];
-    let mut wrote = true;
-    let Ok(nonce) = issued_nonce() else {
-        return Ok(false);
-    };
-    let mut closed = sealing_cut(engine, key, nonce, v.ad.as_slice(), size).close();
-    for (piece, room) in message
-        .chunks(size)
-        .zip(text.as_mut_slice().chunks_mut(size))
-    {
-        let (next, answer) = closed.write(piece, room);
-        closed = next;
-        wrote = wrote && is_count(answer, piece.len());
+    // Opens a box whose associated data comes in pieces of a size.
+    fn open_cut(
+        &self,
+        ad: &[u8],
+        size: NonZeroUsize,
+        sealed: &[u8],
+        buffer: &mut [u8],
+    ) -> Result<usize, Refusal> {
+        let nonce = BoxNonce::new(&NONCE)?;
+        let mut opening = Opening::start(self.engine, self.key, &nonce);
+        for piece in ad.chunks(size.get()) {
+            opening = opening.add(piece);
+        }
+        let (_, answer) = opening.close().open(sealed, buffer);
+        answer
     }
-    let _ = closed.finish(&mut tag);
-    Ok(wrote && is_box(text.as_slice(), &tag, v.sealed.as_slice()))
-}
 
-// Opens a box whose associated data comes in pieces of a size.
-fn open_cut<E: Engine + Copy>(
-    engine: E,
-    key: &Key,
-    ad: &[u8],
-    size: usize,
-    sealed: &[u8],
-    buffer: &mut [u8],
-) -> Result<usize, Refusal>
-    requires { 0 < size }
-{
-    let nonce = BoxNonce::new(&NONCE)?;
-    let mut opening = Opening::start(engine, key, &nonce);
-    for piece in ad.chunks(size) {
-        opening = opening.add(piece);
+    // Whether the box gives the message, with associated data in pieces of a size.
+    fn opens(&self, v: &AeadVector, size: NonZeroUsize) -> Result<bool, AllocError> {
+        let mut message = vec![in self.heap; 0xff; v.message.len()]?;
+        let answer = self.open_cut(&v.ad, size, &v.sealed, &mut message);
+        Ok(answer == Ok(v.message.len()) && message == v.message)
     }
-    let (_, answer) = opening.close().open(sealed, buffer);
-    answer
-}
 
-fn opens<E: Engine + Copy>(
-    heap: Global,
-    engine: E,
-    key: &Key,
-    v: &AeadVector,
-    size: usize,
-) -> Result<bool, AllocError>
-    requires { 0 < size }
-{
-    let mut message = vec![in heap; 0xff; v.message.len()]?;
-    let ad = v.ad.as_slice();
-    let answer = open_cut(
-        engine,
-        key,
-        ad,
-        size,
-        v.sealed.as_slice(),
-        message.as_mut_slice(),
-    );
-    Ok(is_count(answer, v.message.len()) && message.as_slice() == v.message.as_slice())
+    // Whether a box with one bit flipped is refused for its tag, with zeros in place of its message.
+    fn refuses(&self, v: &AeadVector, size: NonZeroUsize) -> Result<bool, AllocError> {
+        let sealed = flipped(v)?;
+        let mut message = vec![in self.heap; 0xff; v.message.len()]?;
+        let answer = self.open_cut(&v.ad, size, &sealed, &mut message);
+        Ok(answer == Err(Refusal::TagDiffers) && message.iter().all(|b| *b == 0))
+    }
+
+    pub(crate) fn check(&self, v: &AeadVector) -> Result<(), Difference> {
+        let large = NonZeroUsize::new(64).unwrap();
+        let size = NonZeroUsize::MIN.saturating_add(v.count % 17);
+        Difference::unless(self.seals_whole(v)?, "the box of one piece")?;
+        Difference::unless(self.seals_cut(v, size)?, "the box of pieces")?;
+        Difference::unless(self.opens(v, large)?, "the opened message")?;
+        Difference::unless(self.opens(v, size)?, "the message opened with pieces")?;
+        Difference::unless(self.refuses(v, large)?, "the refusal of a flipped bit")
+    }
 }
 
 // The box with one bit flipped, another one from entry to entry.
 fn flipped(v: &AeadVector) -> Result<Vec<u8>, AllocError> {
     let mut sealed = v.sealed.clone()?;
-    if sealed.len() != 0 {
+    if !sealed.is_empty() {
         let place = v.count / 8 % sealed.len();
         sealed[place] ^= 1 << (v.count % 8);
     }
     Ok(sealed)
 }
 
-fn all_zeros(string: &[u8]) -> bool {
-    let mut bits = 0;
-    for b in string {
-        bits |= *b;
-    }
-    bits == 0
-}
-
-// Whether a box with one bit flipped is refused for its tag, with zeros in place of its message.
-fn refuses<E: Engine + Copy>(
-    heap: Global,
-    engine: E,
-    key: &Key,
-    v: &AeadVector,
-) -> Result<bool, AllocError> {
-    let sealed = flipped(v)?;
-    let mut message = vec![in heap; 0xff; v.message.len()]?;
-    let ad = v.ad.as_slice();
-    match open_cut(
-        engine,
-        key,
-        ad,
-        64,
-        sealed.as_slice(),
-        message.as_mut_slice(),
-    ) {
-        Ok(_) => Ok(false),
-        Err(refusal) => Ok(refusal.number() == 9 && all_zeros(message.as_slice())),
-    }
-}
-
-// What the engine does otherwise than the vector says.
-pub fn differs<E: Engine + Copy>(
-    heap: Global,
-    engine: E,
-    key: &Key,
-    v: &AeadVector,
-) -> Result<Option<&'static str>, AllocError> {
-    let size = 1 + v.count % 17;
-    if !seals_whole(heap, engine, key, v)? {
-        return Ok(Some("the box of one piece"));
-    }
-    if !seals_cut(heap, engine, key, v, size)? {
-        return Ok(Some("the box of pieces"));
-    }
-    if !opens(heap, engine, key, v, 64)? {
-        return Ok(Some("the opened message"));
-    }
-    if !opens(heap, engine, key, v, size)? {
-        return Ok(Some("the message opened with pieces"));
-    }
-    if !refuses(heap, engine, key, v)? {
-        return Ok(Some("the refusal of a flipped bit"));
-    }
-    Ok(None)
-}
-
-fn is_message(opened: Option<Vec<u8>>, message: &[u8]) -> bool {
-    match opened {
-        Some(found) => found.as_slice() == message,
-        None => false,
-    }
-}
-
-// What the reference does otherwise than the vector says.
-pub fn reference_differs(heap: Global, v: &AeadVector) -> Result<Option<&'static str>, AllocError> {
+pub(crate) fn check_reference(heap: Global, v: &AeadVector) -> Result<(), Difference> {
     let ad = v.ad.as_slice();
     let sealed = seal(heap, &KEY, &NONCE, ad, v.message.as_slice())?;
-    if sealed.as_slice() != v.sealed.as_slice() {
-        return Ok(Some("the box"));
-    }
+    Difference::unless(sealed == v.sealed, "the box")?;
     let opened = open(heap, &KEY, &NONCE, ad, v.sealed.as_slice())?;
-    if !is_message(opened, v.message.as_slice()) {
-        return Ok(Some("the opened message"));
-    }
+    let opens = opened.is_some_and(|found| found == v.message);
+    Difference::unless(opens, "the opened message")?;
     let broken = flipped(v)?;
-    if open(heap, &KEY, &NONCE, ad, broken.as_slice())?.is_some() {
-        return Ok(Some("the refusal of a flipped bit"));
-    }
-    Ok(None)
+    let opened = open(heap, &KEY, &NONCE, ad, broken.as_slice())?;
+    Difference::unless(opened.is_none(), "the refusal of a flipped bit")
 }

@@ -1,6 +1,7 @@
-// A hash vector, on any engine: in one piece, cut, and drawn from in parts.
+// A hash vector, on any engine and on the reference: in one piece, cut, and drawn from in parts.
 ghost use Rattle.std.specs.Prelude.{◌<◌};
 
+use crate::difference::Difference;
 use crate::vector::HashVector;
 use digest::feeding::Feeding;
 use digest::record::{HASH_LEN, hash_string};
@@ -15,7 +16,7 @@ fn hashes_cut<E: Engine + Copy>(engine: E, v: &HashVector, size: usize) -> bool
     requires { 0 < size }
 {
     let mut feeding = Feeding::begin(engine);
-    for piece in v.string.as_slice().chunks(size) {
+    for piece in v.string.chunks(size) {
         feeding = feeding.feed(piece);
     }
     let mut digest = [0; HASH_LEN];
@@ -37,39 +38,24 @@ fn draws<E: Engine + Copy>(engine: E, v: &HashVector) -> bool {
     let _ = drawing.release();
     let mut long = [0; LONG];
     long_output(v.string.as_slice(), &mut long);
-    out.as_slice() == long.as_slice()
+    out == long
 }
 
-// What the engine does otherwise than the vector says.
-pub fn differs<E: Engine + Copy>(engine: E, v: &HashVector) -> Option<&'static str> {
+pub(crate) fn check_engine<E: Engine + Copy>(engine: E, v: &HashVector) -> Result<(), Difference> {
     let (_, digest) = hash_string(engine, v.string.as_slice());
-    if digest.as_slice() != v.digest.as_slice() {
-        return Some("the hash of one piece");
-    }
-    if !hashes_cut(engine, v, 1) {
-        return Some("the hash of pieces of 1 byte");
-    }
-    if !hashes_cut(engine, v, 7) {
-        return Some("the hash of pieces of 7 bytes");
-    }
-    if !hashes_cut(engine, v, 16) {
-        return Some("the hash of pieces of 16 bytes");
-    }
-    if !hashes_cut(engine, v, 100) {
-        return Some("the hash of pieces of 100 bytes");
-    }
-    if !draws(engine, v) {
-        return Some("the long output");
-    }
-    None
+    let agrees = digest.as_slice() == v.digest.as_slice();
+    Difference::unless(agrees, "the hash of one piece")?;
+    Difference::unless(hashes_cut(engine, v, 1), "the hash of pieces of 1 byte")?;
+    Difference::unless(hashes_cut(engine, v, 7), "the hash of pieces of 7 bytes")?;
+    Difference::unless(hashes_cut(engine, v, 16), "the hash of pieces of 16 bytes")?;
+    Difference::unless(
+        hashes_cut(engine, v, 100),
+        "the hash of pieces of 100 bytes",
+    )?;
+    Difference::unless(draws(engine, v), "the long output")
 }
 
-// What the reference does otherwise than the vector says.
-pub fn reference_differs(v: &HashVector) -> Option<&'static str> {
+pub(crate) fn check_reference(v: &HashVector) -> Result<(), Difference> {
     let digest = hash(v.string.as_slice());
-    if digest.as_slice() == v.digest.as_slice() {
-        None
-    } else {
-        Some("the hash")
-    }
+    Difference::unless(digest.as_slice() == v.digest.as_slice(), "the hash")
 }

@@ -2,6 +2,7 @@
 #![tactic(auto)]
 
 mod boxes;
+mod difference;
 mod hashing;
 mod permuting;
 mod run;

@@ -1,5 +1,5 @@
 // Each refusal by its number, beside the nearest call that is not refused.
-use crate::boxes::{KEY, NONCE, is_box, issued_nonce};
+use crate::boxes::{KEY, NONCE, issued_nonce};
 use cipher::book::NonceBook;
 use cipher::key::Key;
 use cipher::nonce::BoxNonce;
@@ -110,7 +110,7 @@ fn a_short_write_leaves_buffer_and_sealing(rt: HostRuntime) -> Result<(), Fail> 
     assert!(rt; left);
     assert_eq!(rt; written?, 20);
     let sealed = seal(rt.alloc(), &KEY, &NONCE, b"", &message)?;
-    assert!(rt; is_box(&text, &tag, sealed.as_slice()));
+    assert!(rt; sealed.strip_prefix(&text) == Some(&tag));
     Ok(())
 }
 

@@ -1,12 +1,13 @@
 // A test vector, read from its line.
-use anyhow::anyhow;
+use anyhow::{Context, anyhow, bail, ensure};
 use engine::engine::WIDTH;
-use std::alloc::Global;
+use hex_text::reading::read_string;
+use std::alloc::{AllocError, Global};
 
-#[derive(Drop)]
+#[derive(Clone, Copy)]
 pub struct PermutationVector {
-    pub before: Vec<u8>,
-    pub after: Vec<u8>,
+    pub before: [u8; WIDTH],
+    pub after: [u8; WIDTH],
 }
 
 #[derive(Drop)]
@@ -30,41 +31,18 @@ pub enum Vector {
     Aead(AeadVector),
 }
 
-fn hex_digit(c: u8) -> anyhow::Result<u8> {
-    match c {
-        b'0'..=b'9' => Ok(c - b'0'),
-        b'a'..=b'f' => Ok(c - b'a' + 10),
-        _ => Err(anyhow!("a digit is not a hex digit")),
-    }
-}
-
 // The string of a field: pairs of hex digits, or '-' for the empty string.
 fn string_of(heap: Global, field: &str) -> anyhow::Result<Vec<u8>> {
-    let mut string = Vec::new(heap);
     if field == "-" {
-        return Ok(string);
+        return Ok(Vec::new(heap));
     }
-    if field.len() % 2 != 0 {
-        return Err(anyhow!("a field ends in half a byte"));
-    }
-    for pair in field.as_bytes().chunks_exact(2) {
-        let [high, low] = pair else {
-            return Err(anyhow!("a field ends in half a byte"));
-        };
-        let high = hex_digit(*high)?;
-        let low = hex_digit(*low)?;
-        string.push(high << 4 | low)?;
-    }
-    Ok(string)
+    ensure!(field.len() % 2 == 0, "a field ends in half a byte");
+    read_string(heap, field.as_bytes())?.context("a digit is not a hex digit")
 }
 
 // The string 00 01 02 .. of n bytes.
-fn counting(heap: Global, n: usize) -> anyhow::Result<Vec<u8>> {
-    let mut string = Vec::new(heap);
-    for i in 0..n {
-        string.push((i % 256) as u8)?;
-    }
-    Ok(string)
+fn counting(heap: Global, n: usize) -> Result<Vec<u8>, AllocError> {
+    (0..n).map(|i| (i % 256) as u8).collect(heap)
 }
 
 fn aead_vector(
@@ -90,13 +68,17 @@ fn hash_vector(heap: Global, length: &str, digest: &str) -> anyhow::Result<Vecto
 }
 
 // A state that is not 48 bytes is no vector: comparing it would leave bytes out.
+fn state_of(string: &[u8]) -> anyhow::Result<[u8; WIDTH]> {
+    <[u8; WIDTH]>::try_from(string).map_err(|_| anyhow!("a state is not 48 bytes"))
+}
+
 fn permutation_vector(heap: Global, before: &str, after: &str) -> anyhow::Result<Vector> {
     let before = string_of(heap, before)?;
     let after = string_of(heap, after)?;
-    if before.len() != WIDTH || after.len() != WIDTH {
-        return Err(anyhow!("a state is not 48 bytes"));
-    }
-    Ok(Vector::Permutation(PermutationVector { before, after }))
+    Ok(Vector::Permutation(PermutationVector {
+        before: state_of(before.as_slice())?,
+        after: state_of(after.as_slice())?,
+    }))
 }
 
 // The vector of a line. A line that is no vector stops the run: left out, it would pass unseen.
@@ -106,6 +88,6 @@ pub fn parse(heap: Global, line: &str) -> anyhow::Result<Vector> {
         ["permutation", before, after] => permutation_vector(heap, before, after),
         ["hash", length, digest] => hash_vector(heap, length, digest),
         ["aead", count, message, ad, sealed] => aead_vector(heap, count, message, ad, sealed),
-        _ => Err(anyhow!("a line is no vector")),
+        _ => bail!("a line is no vector"),
     }
 }
