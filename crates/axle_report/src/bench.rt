@@ -1,6 +1,5 @@
 // The bench: seals a record of two axles, axle by axle, on three shares, and prints its slip.
 use crate::show::Said;
-use anyhow::anyhow;
 use cipher::book::NonceBook;
 use cipher::key::Key;
 use digest::force_word::ForceWord;
@@ -37,25 +36,20 @@ pub struct Sealed {
     pub sealed: Vec<u8>,
 }
 
-// The eight bytes of an axle: its two forces, each lowest byte first.
-fn axle_bytes(heap: Global, forces: [u32; 2]) -> Result<Vec<u8>, AllocError> {
-    let [left, right] = forces;
-    let mut bytes = Vec::new(heap);
-    bytes.extend_from_slice(&left.to_le_bytes())?;
-    bytes.extend_from_slice(&right.to_le_bytes())?;
-    Ok(bytes)
-}
-
+// Writes the eight bytes of an axle: its two forces, each lowest byte first.
 fn write(heap: Global, forces: [u32; 2]) -> Result<Call<Lists>, AllocError> {
+    let bytes = forces.map(|force| force.to_le_bytes());
     Ok(Call::Write {
-        piece: axle_bytes(heap, forces)?,
+        piece: bytes.as_flattened().to_vec(heap)?,
         buffer: vec![in heap; 0; 8]?,
     })
 }
 
 fn feed_forces(heap: Global, forces: [u32; 2]) -> Result<Call<Lists>, AllocError> {
-    let [left, right] = forces;
-    let list = vec![in heap; ForceWord::new(left), ForceWord::new(right)]?;
+    let list = forces
+        .iter()
+        .map(|force| ForceWord::new(*force))
+        .collect(heap)?;
     Ok(Call::FeedList {
         list: Either::First(list),
     })
@@ -68,32 +62,34 @@ fn feed_note(heap: Global, note: Note) -> Result<Call<Lists>, AllocError> {
     })
 }
 
-fn seal_calls(heap: Global, script: &mut Vec<Step<Lists>>, key: Key) -> Result<(), AllocError> {
+fn seal_calls(heap: Global, key: Key) -> Result<[Call<Lists>; 7], AllocError> {
     let [first, second] = FORCES;
-    script.push(Step::new(Call::Issue))?;
-    script.push(Step::new(Call::StartSealing { key, issue: 0 }))?;
-    script.push(Step::new(Call::Add {
-        piece: HEADER.to_vec(heap)?,
-    }))?;
-    script.push(Step::new(Call::Close))?;
-    script.push(Step::new(write(heap, first)?))?;
-    script.push(Step::new(write(heap, second)?))?;
-    script.push(Step::new(Call::Finish))?;
-    Ok(())
+    Ok([
+        Call::Issue,
+        Call::StartSealing { key, issue: 0 },
+        Call::Add {
+            piece: HEADER.to_vec(heap)?,
+        },
+        Call::Close,
+        write(heap, first)?,
+        write(heap, second)?,
+        Call::Finish,
+    ])
 }
 
-fn slip_calls(heap: Global, script: &mut Vec<Step<Lists>>, note: Note) -> Result<(), AllocError> {
+fn slip_calls(heap: Global, note: Note) -> Result<[Call<Lists>; 7], AllocError> {
     let [first, second] = FORCES;
-    script.push(Step::new(Call::BeginDigest))?;
-    script.push(Step::new(feed_forces(heap, first)?))?;
-    script.push(Step::new(feed_forces(heap, second)?))?;
-    script.push(Step::new(feed_note(heap, note)?))?;
-    script.push(Step::new(Call::EndFeeding))?;
-    script.push(Step::new(Call::Draw {
-        buffer: vec![in heap; 0; 32]?,
-    }))?;
-    script.push(Step::new(Call::Release))?;
-    Ok(())
+    Ok([
+        Call::BeginDigest,
+        feed_forces(heap, first)?,
+        feed_forces(heap, second)?,
+        feed_note(heap, note)?,
+        Call::EndFeeding,
+        Call::Draw {
+            buffer: vec![in heap; 0; 32]?,
+        },
+        Call::Release,
+    ])
 }
 
 // Prints a step that ran, and adds to the box what it gave.
@@ -105,65 +101,25 @@ fn show_step(
 ) -> anyhow::Result<()> {
     let said = Said(&step.reply);
     match (&step.call, &step.reply) {
-        (Call::StartSealing { key: _, issue: _ }, Reply::Nonce(nonce)) => {
+        (Call::StartSealing { .. }, Reply::Nonce(nonce)) => {
             sealed.nonce.extend_from_slice(nonce)?;
             println!(rt; "  {at} start sealing: {said}")?;
         }
         (Call::Write { piece, buffer }, _) => {
-            sealed.sealed.extend_from_slice(buffer.as_slice())?;
-            let plain = Hex(piece.as_slice());
-            let cipher = Hex(buffer.as_slice());
-            println!(rt; "  {at} write {plain}: {said}, {cipher}")?;
+            sealed.sealed.extend_from_slice(buffer)?;
+            println!(rt; "  {at} write {}: {said}, {}", Hex(piece), Hex(buffer))?;
         }
         (Call::Finish, Reply::Tag(tag)) => {
             sealed.sealed.extend_from_slice(tag)?;
             println!(rt; "  {at} finish: {said}")?;
         }
+        (Call::FeedList { .. }, _) => println!(rt; "  {at} feed list: {said}")?,
         (Call::Draw { buffer }, _) => {
-            let slip = Hex(buffer.as_slice());
-            println!(rt; "  {at} draw: the slip shows {slip}")?;
+            println!(rt; "  {at} draw: the slip shows {}", Hex(buffer))?;
         }
-        (call, _) => {
-            let name = name_of(call);
-            println!(rt; "  {at} {name}: {said}")?;
-        }
+        (call, _) => println!(rt; "  {at} {}: {said}", call.name())?,
     }
     Ok(())
-}
-
-fn name_of(call: &Call<Lists>) -> &'static str {
-    match call {
-        Call::Issue => "issue",
-        Call::StartSealing { key: _, issue: _ } => "start sealing",
-        Call::StartOpening { key: _, nonce: _ } => "start opening",
-        Call::Add { piece: _ } => "add",
-        Call::Close => "close",
-        Call::Write {
-            piece: _,
-            buffer: _,
-        } => "write",
-        Call::Finish => "finish",
-        Call::Open {
-            sealed: _,
-            buffer: _,
-        } => "open",
-        Call::BeginDigest => "begin digest",
-        Call::Feed { piece: _ } => "feed",
-        Call::FeedList { list: _ } => "feed list",
-        Call::EndFeeding => "end feeding",
-        Call::Draw { buffer: _ } => "draw",
-        Call::Release => "release",
-    }
-}
-
-fn refused(e: Refusal) -> anyhow::Error {
-    match e {
-        Refusal::KeyLength => anyhow!("a key is not 32 bytes"),
-        Refusal::NameLength => anyhow!("a bench name is not 12 bytes"),
-        Refusal::NoteLength => anyhow!("a note is longer than 28 bytes"),
-        Refusal::MaskLength => anyhow!("a mask is not 48 bytes"),
-        _ => anyhow!("refused"),
-    }
 }
 
 // What the bench works with: its key, its book, and a three-share engine under two masks.
@@ -192,16 +148,17 @@ pub(crate) fn report(rt: &HostRuntime) -> anyhow::Result<Sealed> {
         mut book,
         engine,
         note,
-    } = match set_up() {
-        Ok(bench) => bench,
-        Err(e) => return Err(refused(e)),
-    };
+    } = set_up()?;
     let heap = rt.alloc();
     let mut script = Vec::new(heap);
-    seal_calls(heap, &mut script, key)?;
-    slip_calls(heap, &mut script, note)?;
-    let Ended { engine: _, ran } = run(&mut book, engine, script.as_mut_slice());
-    show_run(rt, ran, script.as_slice(), book.count())
+    for call in seal_calls(heap, key)? {
+        script.push(Step::new(call))?;
+    }
+    for call in slip_calls(heap, note)? {
+        script.push(Step::new(call))?;
+    }
+    let Ended { engine: _, ran } = run(&mut book, engine, &mut script);
+    show_run(rt, ran, &script, book.count())
 }
 
 fn show_run(
@@ -218,9 +175,10 @@ fn show_run(
     for (at, step) in script.iter().enumerate() {
         show_step(rt, at, step, &mut sealed)?;
     }
-    let calls = script.len();
-    println!(rt; "  {ran} of {calls} calls ran; the book's next count is {count}.")?;
-    let shown = Hex(sealed.sealed.as_slice());
-    println!(rt; "  the box: {shown}")?;
+    println!(rt;
+        "  {ran} of {} calls ran; the book's next count is {count}.",
+        script.len()
+    )?;
+    println!(rt; "  the box: {}", Hex(&sealed.sealed))?;
     Ok(sealed)
 }

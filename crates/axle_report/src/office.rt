@@ -1,7 +1,7 @@
 // The inspection office: opens the box on a plain engine, and refuses one with a single bit changed.
 use crate::bench::{HEADER, KEY, Sealed};
 use crate::show::Said;
-use anyhow::anyhow;
+use anyhow::bail;
 use cipher::book::NonceBook;
 use cipher::key::Key;
 use cipher::nonce::BoxNonce;
@@ -13,6 +13,7 @@ use hex_text::showing::Hex;
 use runs::run::{Ended, run};
 use runs::script::{Call, Reply, Step};
 use std::alloc::{AllocError, Global};
+use std::io;
 
 type Script = Vec<Step<Vec<ForceWord>>>;
 
@@ -37,63 +38,62 @@ fn open_calls(
     nonce: BoxNonce,
     sealed: Vec<u8>,
 ) -> Result<Script, AllocError> {
-    let mut script = Vec::new(heap);
-    script.push(Step::new(Call::StartOpening { key, nonce }))?;
-    script.push(Step::new(Call::Add {
-        piece: HEADER.to_vec(heap)?,
-    }))?;
-    script.push(Step::new(Call::Close))?;
-    script.push(Step::new(Call::Open {
-        sealed,
-        buffer: vec![in heap; 0xaa; 20]?,
-    }))?;
-    Ok(script)
+    Ok(vec![in heap;
+        Step::new(Call::StartOpening { key, nonce }),
+        Step::new(Call::Add {
+            piece: HEADER.to_vec(heap)?,
+        }),
+        Step::new(Call::Close),
+        Step::new(Call::Open {
+            sealed,
+            buffer: vec![in heap; 0xaa; 20]?,
+        }),
+    ]?)
 }
 
-// Prints the forces of a message, two to an axle.
-fn show_forces(rt: &HostRuntime, message: &[u8]) -> anyhow::Result<()> {
-    for (axle, bytes) in message.chunks_exact(8).enumerate() {
-        if let [a, b, c, d, e, f, g, h] = bytes {
-            let left = u32::from_le_bytes([*a, *b, *c, *d]);
-            let right = u32::from_le_bytes([*e, *f, *g, *h]);
-            let number = axle.wrapping_add(1);
-            println!(rt; "  axle {number}: left {left} N, right {right} N")?;
-        }
+// Prints the forces of a message, two to an axle, each lowest byte first.
+fn show_forces(rt: &HostRuntime, message: &[u8]) -> io::Result<()> {
+    let (forces, _) = message.as_chunks::<4>();
+    let (axles, _) = forces.as_chunks::<2>();
+    for (before, axle) in axles.iter().enumerate() {
+        let [left, right] = axle.map(|force| u32::from_le_bytes(force));
+        println!(rt; "  axle {}: left {left} N, right {right} N", before + 1)?;
     }
     Ok(())
 }
 
-fn show_answer(rt: &HostRuntime, step: &Step<Vec<ForceWord>>) -> anyhow::Result<()> {
-    let Call::Open { sealed: _, buffer } = &step.call else {
+fn show_answer(rt: &HostRuntime, step: &Step<Vec<ForceWord>>) -> io::Result<()> {
+    let Call::Open { buffer, .. } = &step.call else {
         return Ok(());
     };
     let said = Said(&step.reply);
-    let left = Hex(buffer.as_slice());
-    println!(rt; "  open: {said}; the buffer of 20 bytes holds {left}")?;
-    match &step.reply {
-        Reply::Length(n) => {
-            let n = (*n).min(buffer.len());
-            show_forces(rt, &buffer.as_slice()[0..n])
-        }
+    println!(rt;
+        "  open: {said}; the buffer of 20 bytes holds {}",
+        Hex(buffer)
+    )?;
+    match step.reply {
+        Reply::Length(n) => show_forces(rt, &buffer[..n.min(buffer.len())]),
         _ => Ok(()),
     }
 }
 
 fn open(rt: &HostRuntime, nonce: &[u8], sealed: Vec<u8>) -> anyhow::Result<()> {
-    let Office {
-        key,
-        nonce,
-        mut book,
-    } = match set_up(nonce) {
-        Ok(office) => office,
-        Err(_) => return Err(anyhow!("the office cannot be set up")),
+    let Ok(
+        Office {
+            key,
+            nonce,
+            mut book,
+        },
+    ) = set_up(nonce)
+    else {
+        bail!("the office cannot be set up");
     };
     let mut script = open_calls(rt.alloc(), key, nonce, sealed)?;
-    let Ended { engine: _, ran: _ } = run(&mut book, PlainEngine::new(), script.as_mut_slice());
-    match script.last() {
-        Some(step) => show_answer(rt, step),
-        None => Ok(()),
+    let Ended { engine: _, ran: _ } = run(&mut book, PlainEngine::new(), &mut script);
+    if let Some(step) = script.last() {
+        show_answer(rt, step)?;
     }
+    Ok(())
 }
 
 pub(crate) fn report(rt: &HostRuntime, sealed: Sealed) -> anyhow::Result<()> {
@@ -102,9 +102,8 @@ pub(crate) fn report(rt: &HostRuntime, sealed: Sealed) -> anyhow::Result<()> {
     println!(rt; "The office opens the box on a plain engine.")?;
     open(rt, nonce.as_slice(), sealed)?;
     println!(rt; "The same box with one bit changed.")?;
-    match damaged.first_mut() {
-        Some(b) => *b ^= 1,
-        None => {}
+    if let Some(b) = damaged.first_mut() {
+        *b ^= 1;
     }
     open(rt, nonce.as_slice(), damaged)
 }

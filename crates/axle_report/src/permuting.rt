@@ -1,10 +1,11 @@
 // The published test state, permuted by the three engines.
 use engine::engine::{Engine, WIDTH};
+use engine::strings::{holds, xor_string};
 use gimli::plain::PlainEngine;
 use gimli::standing::StandingEngine;
 use gimli::state::State;
 use gimli::three_share::ThreeShareEngine;
-use std::io;
+use std::{array, io};
 
 // The published result, row by row.
 const RESULT: [u32; 12] = [
@@ -17,41 +18,6 @@ fn test_word(i: u32) -> u32 {
     i.wrapping_mul(i)
         .wrapping_mul(i)
         .wrapping_add(i.wrapping_mul(0x9e37_79b9))
-}
-
-// The string of twelve words, each lowest byte first.
-fn string_of(words: &[u32; 12]) -> [u8; WIDTH] {
-    let mut string = [0; WIDTH];
-    for place in 0..WIDTH {
-        let word = words[place / 4];
-        string[place] = ((word >> (8 * (place % 4))) & 0xff) as u8;
-    }
-    string
-}
-
-fn load<E: Engine>(engine: &mut E, string: &[u8]) {
-    for (place, b) in string.iter().enumerate() {
-        let _ = engine.xor_byte(place, *b);
-    }
-}
-
-// Whether the engine's string is another one.
-fn holds<E: Engine>(engine: &E, string: &[u8]) -> bool {
-    let mut same = true;
-    for (place, b) in string.iter().enumerate() {
-        match engine.byte(place) {
-            Ok(held) => same = same && held == *b,
-            Err(_) => same = false,
-        }
-    }
-    same
-}
-
-// Loads the test state, permutes it, and says whether the published result came out.
-fn agrees<E: Engine>(engine: &mut E, string: &[u8], res: &[u8]) -> bool {
-    load(engine, string);
-    engine.permute();
-    holds(engine, res)
 }
 
 fn show_row(rt: &HostRuntime, name: &str, row: [u32; 4]) -> io::Result<()> {
@@ -84,32 +50,40 @@ fn verdict(agrees: bool) -> &'static str {
     }
 }
 
-pub(crate) fn report(rt: &HostRuntime) -> io::Result<()> {
-    let mut words = [0; 12];
-    for i in 0..12u32 {
-        words[i as usize] = test_word(i);
-    }
-    let string = string_of(&words);
-    let result = string_of(&RESULT);
-    println!(rt; "The published test state of the Gimli permutation, on three engines.")?;
-    let mut plain = PlainEngine::new();
-    let said = verdict(agrees(&mut plain, &string, &result));
-    println!(rt; "plain engine: 24 rounds give {said}.")?;
-    let mut standing = StandingEngine::new();
-    let said = verdict(agrees(&mut standing, &string, &result));
-    println!(rt; "standing engine: 24 rounds give {said}.")?;
-    three_shares(rt, &string, &result)
+// Loads the test state, permutes it, and says whether the published result came out.
+fn show_engine<E: Engine + Copy>(
+    rt: &HostRuntime,
+    name: &str,
+    mut engine: E,
+    string: &[u8],
+    published: &[u8],
+) -> io::Result<()> {
+    xor_string(&mut engine, 0, string);
+    engine.permute();
+    let said = verdict(holds(&engine, published));
+    println!(rt; "{name} engine: 24 rounds give {said}.")
 }
 
-fn three_shares(rt: &HostRuntime, string: &[u8], res: &[u8]) -> io::Result<()> {
-    let Ok(mut engine) = ThreeShareEngine::new(&[0x5a; WIDTH], &[0xc3; WIDTH]) else {
-        return println!(rt; "a mask is not 48 bytes");
-    };
+fn show_three_shares(rt: &HostRuntime, string: &[u8], published: &[u8]) -> anyhow::Result<()> {
+    let mut engine = ThreeShareEngine::new(&[0x5a; WIDTH], &[0xc3; WIDTH])?;
     println!(rt; "three-share engine: made from two masks; the test state is xored into share 0.")?;
-    load(&mut engine, string);
+    xor_string(&mut engine, 0, string);
     show_shares(rt, "before", &engine)?;
     engine.permute();
     show_shares(rt, "after 24 rounds on each share by itself", &engine)?;
-    let said = verdict(holds(&engine, res));
-    println!(rt; "three-share engine: the xor of its shares is {said}.")
+    let said = verdict(holds(&engine, published));
+    println!(rt; "three-share engine: the xor of its shares is {said}.")?;
+    Ok(())
+}
+
+pub(crate) fn report(rt: &HostRuntime) -> anyhow::Result<()> {
+    let words: [u32; 12] = array::from_fn(|i| test_word(i as u32));
+    let string = words.map(|word| word.to_le_bytes());
+    let string = string.as_flattened();
+    let published = RESULT.map(|word| word.to_le_bytes());
+    let published = published.as_flattened();
+    println!(rt; "The published test state of the Gimli permutation, on three engines.")?;
+    show_engine(rt, "plain", PlainEngine::new(), string, published)?;
+    show_engine(rt, "standing", StandingEngine::new(), string, published)?;
+    show_three_shares(rt, string, published)
 }

@@ -12,22 +12,10 @@ impl fmt::Display for Said<'_> {
         match self.0 {
             Reply::NotRun => write!(f, "not run"),
             Reply::Done => write!(f, "done"),
-            Reply::Nonce(nonce) => {
-                let nonce = Hex(nonce);
-                write!(f, "nonce {nonce}")
-            }
-            Reply::Length(n) => {
-                let n = *n;
-                write!(f, "{n} bytes")
-            }
-            Reply::Tag(tag) => {
-                let tag = Hex(tag);
-                write!(f, "tag {tag}")
-            }
-            Reply::Refused(e) => {
-                let number = e.number();
-                write!(f, "refused {number}")
-            }
+            Reply::Nonce(nonce) => write!(f, "nonce {}", Hex(nonce)),
+            Reply::Length(n) => write!(f, "{n} bytes"),
+            Reply::Tag(tag) => write!(f, "tag {}", Hex(tag)),
+            Reply::Refused(refusal) => write!(f, "{refusal}"),
         }
     }
 }
