@@ -1,19 +1,21 @@
 // Cases: the strings of a box, and the lengths and pieces that are tried. Case n is always the same.
 use cipher::book::{IssuedNonce, NonceBook};
+use cipher::key::Key;
 use engine::refusal::Refusal;
 use std::alloc::{AllocError, Global};
+use std::num::NonZeroUsize;
 
-const LENGTHS: [usize; 10] = [0, 1, 15, 16, 17, 31, 32, 33, 255, 4096];
+pub(crate) const LENGTHS: [usize; 10] = [0, 1, 15, 16, 17, 31, 32, 33, 255, 4096];
 
-const SIZES: [usize; 4] = [1, 7, 16, 100];
+pub(crate) const SIZES: [usize; 4] = [1, 7, 16, 100];
 
 pub(crate) fn length(n: usize) -> usize {
-    LENGTHS[n % 10]
+    LENGTHS[n % LENGTHS.len()]
 }
 
 // The size of the pieces that strings are cut into.
-pub(crate) fn size(n: usize) -> usize {
-    SIZES[n % 4]
+pub(crate) fn size(n: usize) -> NonZeroUsize {
+    NonZeroUsize::new(SIZES[n % SIZES.len()]).unwrap_or(NonZeroUsize::MIN)
 }
 
 // A small generator of bytes.
@@ -47,15 +49,14 @@ impl Source {
 // The bytes that the cases take their strings from.
 pub(crate) fn make_pool(heap: Global) -> Result<Vec<u8>, AllocError> {
     let mut pool = vec![in heap; 0; 16384]?;
-    Source::new(0).fill(pool.as_mut_slice());
+    Source::new(0).fill(&mut pool);
     Ok(pool)
 }
 
 // So many bytes from a place on, or as many as there are.
 pub(crate) fn window(string: &[u8], from: usize, n: usize) -> &[u8] {
-    let from = from.min(string.len());
-    let n = n.min(string.len() - from);
-    &string[from..from + n]
+    let rest = &string[from.min(string.len())..];
+    &rest[..n.min(rest.len())]
 }
 
 #[derive(Clone, Copy)]
@@ -82,11 +83,11 @@ impl<'a> Case<'a> {
         }
     }
 
-    // The nonce, as a book issues it.
-    pub(crate) fn issued_nonce(&self) -> Result<IssuedNonce, Refusal> {
+    // The key, and the nonce as a book issues it.
+    pub(crate) fn key_and_nonce(&self) -> Result<(Key, IssuedNonce), Refusal> {
         let [.., a, b, c, d] = self.nonce;
         let mut book = NonceBook::new(&self.nonce[0..12], u32::from_le_bytes([a, b, c, d]))?;
-        book.issue()
+        Ok((Key::new(&self.key)?, book.issue()?))
     }
 
     // The reference's box of the case.

@@ -1,5 +1,6 @@
 // Comparisons with wrong expectations: none of them may agree. They show that the others can fail.
-use crate::case::{Case, window};
+use crate::bench::Bench;
+use crate::case::{Case, size, window};
 use crate::damage::change;
 use crate::digests::{draws, hashes};
 use crate::opening::{Attempt, UNTOUCHED, is_cleared, is_left};
@@ -19,36 +20,35 @@ fn changed(heap: Global, string: &[u8], place: usize) -> Result<Vec<u8>, AllocEr
 }
 
 fn boxes<E: Engine + Copy>(
-    heap: Global,
-    engine: E,
+    bench: &Bench<E>,
     case: &Case,
     place: usize,
     tally: &mut Tally,
 ) -> Result<(), AllocError> {
+    let heap = bench.heap;
     let sealed = case.sealed(heap)?;
-    let wrong = changed(heap, sealed.as_slice(), place)?;
-    let intact = Attempt::faulty(sealed.as_slice(), 64);
-    let damaged = Attempt::intact(wrong.as_slice(), case.message);
-    tally.count(seals_whole(heap, engine, case, wrong.as_slice())?);
-    tally.count(seals(heap, engine, case, wrong.as_slice(), 7)?);
-    tally.count(intact.agrees(heap, engine, case, 7)?);
+    let wrong = changed(heap, &sealed, place)?;
+    let intact = Attempt::faulty(&sealed, 64);
+    let damaged = Attempt::intact(&wrong, case.message);
+    tally.count(seals_whole(bench, case, &wrong)?);
+    tally.count(seals(bench, case, &wrong, size(1))?);
+    tally.count(intact.agrees(bench, case, size(1))?);
     tally.count(intact.reference_agrees(heap, case)?);
-    tally.count(damaged.agrees(heap, engine, case, 7)?);
+    tally.count(damaged.agrees(bench, case, size(1))?);
     tally.count(damaged.reference_agrees(heap, case)?);
     Ok(())
 }
 
 fn digests<E: Engine + Copy>(
-    heap: Global,
-    engine: E,
+    bench: &Bench<E>,
     string: &[u8],
     place: usize,
     tally: &mut Tally,
 ) -> Result<(), AllocError> {
     let digest = hash(string);
-    let wrong = changed(heap, digest.as_slice(), place)?;
-    tally.count(hashes(engine, string, wrong.as_slice()));
-    tally.count(draws(heap, engine, string, 7, wrong.as_slice())?);
+    let wrong = changed(bench.heap, &digest, place)?;
+    tally.count(hashes(bench.engine, string, &wrong));
+    tally.count(draws(bench, string, size(1), &wrong)?);
     Ok(())
 }
 
@@ -71,19 +71,18 @@ fn buffers(tally: &mut Tally) {
 
 // Counts each comparison with the first and with the last byte wrong.
 pub(crate) fn count<E: Engine + Copy>(
-    heap: Global,
-    engine: E,
-    pool: &[u8],
+    bench: &Bench<E>,
     tally: &mut Tally,
 ) -> Result<(), AllocError> {
+    let pool = bench.pool;
     let string = window(pool, 0, 48);
     let case = Case::nth(7, window(pool, 60, 20), window(pool, 90, 40));
-    boxes(heap, engine, &case, 0, tally)?;
-    boxes(heap, engine, &case, 55, tally)?;
-    digests(heap, engine, string, 0, tally)?;
-    digests(heap, engine, string, 31, tally)?;
-    permutations(engine, string, 0, tally);
-    permutations(engine, string, 47, tally);
+    boxes(bench, &case, 0, tally)?;
+    boxes(bench, &case, 55, tally)?;
+    digests(bench, string, 0, tally)?;
+    digests(bench, string, 31, tally)?;
+    permutations(bench.engine, string, 0, tally);
+    permutations(bench.engine, string, 47, tally);
     buffers(tally);
     Ok(())
 }

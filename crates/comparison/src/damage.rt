@@ -1,13 +1,14 @@
 // Boxes that are cut, lengthened or changed, and boxes with another key, nonce, associated data or buffer.
+use crate::bench::Bench;
 use crate::case::{Case, length, size, window};
 use crate::opening::Attempt;
 use crate::tally::Tally;
 use cipher::sealing::TAG_LEN;
 use engine::engine::Engine;
-use std::alloc::{AllocError, Global};
+use std::alloc::AllocError;
 
 #[derive(Clone, Copy)]
-enum Damage {
+pub(crate) enum Damage {
     // So many bytes are left of the box, cut off at its end, added to it.
     Left(usize),
     CutOff(usize),
@@ -25,7 +26,7 @@ enum Damage {
     ShortBuffer(usize),
 }
 
-const DAMAGES: [Damage; 34] = [
+pub(crate) const DAMAGES: [Damage; 34] = [
     Damage::Left(0),
     Damage::Left(1),
     Damage::Left(15),
@@ -62,12 +63,9 @@ const DAMAGES: [Damage; 34] = [
     Damage::ShortBuffer(8192),
 ];
 
-// Each damage of a box of each length, the empty message last: no buffer is too short for that.
-pub(crate) const DAMAGED: usize = 338;
-
 pub(crate) fn change(string: &mut [u8], place: usize) {
-    if place < string.len() {
-        string[place] ^= 1 << (place % 8);
+    if let Some(b) = string.get_mut(place) {
+        *b ^= 1 << (place % 8);
     }
 }
 
@@ -111,25 +109,24 @@ impl Damage {
 
 // Whether an engine and the reference refuse case n as they have to.
 pub(crate) fn agrees<E: Engine + Copy>(
-    heap: Global,
-    engine: E,
+    bench: &Bench<E>,
     n: usize,
-    pool: &[u8],
     tally: &mut Tally,
 ) -> Result<bool, AllocError> {
-    let damage = DAMAGES[n % 34];
-    let longer = window(pool, n, 2 + n % 40);
-    let message = window(pool, 5000 + n % 100, length(1 + n / 34));
+    let damage = DAMAGES[n % DAMAGES.len()];
+    let longer = window(bench.pool, n, 2 + n % 40);
+    let message = window(bench.pool, 5000 + n % 100, length(1 + n / DAMAGES.len()));
     let case = Case::nth(n, window(longer, 0, 1 + n % 40), message);
-    let mut sealed = case.sealed(heap)?;
+    let mut sealed = case.sealed(bench.heap)?;
     let whole = sealed.len();
     sealed.extend_from_slice(&[0; TAG_LEN])?;
-    let left = damage.of_box(whole, sealed.as_mut_slice());
+    let left = damage.of_box(whole, &mut sealed);
     let case = damage.of_case(case, longer);
-    let sealed = window(sealed.as_slice(), 0, left);
+    let sealed = window(&sealed, 0, left);
+    let size = size(n);
     tally.add_bytes(case.ad);
     tally.add_bytes(sealed);
-    tally.add_shape([case.ad.len(), sealed.len(), size(n)]);
+    tally.add_shape([case.ad.len(), sealed.len(), size.get()]);
     let attempt = Attempt::faulty(sealed, damage.room(message.len()));
-    Ok(attempt.agrees(heap, engine, &case, size(n))? && attempt.reference_agrees(heap, &case)?)
+    Ok(attempt.agrees(bench, &case, size)? && attempt.reference_agrees(bench.heap, &case)?)
 }

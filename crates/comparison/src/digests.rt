@@ -1,17 +1,19 @@
 // Digests on any engine, fed and drawn in pieces.
+use crate::bench::Bench;
 use digest::feeding::Feeding;
 use digest::record::hash_string;
 use engine::engine::Engine;
-use std::alloc::{AllocError, Global};
+use std::alloc::AllocError;
+use std::num::NonZeroUsize;
 
 // Fills a buffer with the long output of a string, both in pieces of a size.
-fn draw_pieces<E: Engine + Copy>(engine: E, string: &[u8], size: usize, out: &mut [u8]) {
+fn draw_pieces<E: Engine + Copy>(engine: E, string: &[u8], size: NonZeroUsize, out: &mut [u8]) {
     let mut feeding = Feeding::begin(engine);
-    for piece in string.chunks(size.max(1)) {
+    for piece in string.chunks(size.get()) {
         feeding = feeding.feed(piece);
     }
     let mut drawing = feeding.end_feeding();
-    for piece in out.chunks_mut(size.max(1)) {
+    for piece in out.chunks_mut(size.get()) {
         drawing = drawing.draw(piece);
     }
     let _ = drawing.release();
@@ -19,14 +21,13 @@ fn draw_pieces<E: Engine + Copy>(engine: E, string: &[u8], size: usize, out: &mu
 
 // Whether the long output of a string, fed and drawn in pieces of a size, begins with another.
 pub(crate) fn draws<E: Engine + Copy>(
-    heap: Global,
-    engine: E,
+    bench: &Bench<E>,
     string: &[u8],
-    size: usize,
+    size: NonZeroUsize,
     long: &[u8],
 ) -> Result<bool, AllocError> {
-    let mut out = vec![in heap; 0; long.len()]?;
-    draw_pieces(engine, string, size, out.as_mut_slice());
+    let mut out = vec![in bench.heap; 0; long.len()]?;
+    draw_pieces(bench.engine, string, size, &mut out);
     Ok(out.as_slice() == long)
 }
 

@@ -1,7 +1,8 @@
 // Groups of cases that are made here, each run on the three engines.
-use crate::case::{Case, length, size, window};
+use crate::bench::Bench;
+use crate::case::{Case, LENGTHS, SIZES, length, size, window};
 use crate::damage;
-use crate::damage::DAMAGED;
+use crate::damage::DAMAGES;
 use crate::digests::draws;
 use crate::opening::Attempt;
 use crate::permuting::permutes;
@@ -10,12 +11,10 @@ use crate::tally::Tally;
 use engine::engine::{Engine, WIDTH};
 use reference::hash::long_output;
 use reference::permutation::permuted;
-use std::alloc::{AllocError, Global};
+use std::alloc::AllocError;
+use std::num::NonZeroUsize;
 
 const STATES: usize = 100;
-
-// Each length with each length and each size of pieces.
-const SHAPES: usize = 400;
 
 #[derive(Clone, Copy)]
 pub(crate) enum Group {
@@ -25,52 +24,53 @@ pub(crate) enum Group {
     Damaged,
 }
 
+// The shape of case n: two lengths and a size of pieces. Each comes with each of the others.
+fn shape(n: usize) -> (usize, usize, NonZeroUsize) {
+    let pair = n / SIZES.len();
+    (length(pair / LENGTHS.len()), length(pair), size(n))
+}
+
 // Whether an engine permutes state n as the reference does.
-fn permutation_agrees<E: Engine + Copy>(engine: E, n: usize, pool: &[u8]) -> bool {
-    let before = window(pool, n, WIDTH);
-    match permuted(before) {
-        Some(after) => permutes(engine, before, &after),
-        None => false,
-    }
+fn permutation_agrees<E: Engine + Copy>(bench: &Bench<E>, n: usize) -> bool {
+    let before = window(bench.pool, n, WIDTH);
+    permuted(before).is_some_and(|after| permutes(bench.engine, before, &after))
 }
 
 // Whether the long output of string n is the reference's.
 fn digest_agrees<E: Engine + Copy>(
-    heap: Global,
-    engine: E,
+    bench: &Bench<E>,
     n: usize,
-    pool: &[u8],
     tally: &mut Tally,
 ) -> Result<bool, AllocError> {
-    let string = window(pool, n, length(n / 40));
-    let mut long = vec![in heap; 0; length(n / 4)]?;
-    long_output(string, long.as_mut_slice());
+    let (fed, drawn, size) = shape(n);
+    let string = window(bench.pool, n, fed);
+    let mut long = vec![in bench.heap; 0; drawn]?;
+    long_output(string, &mut long);
     tally.add_bytes(string);
-    tally.add_bytes(long.as_slice());
-    tally.add_shape([string.len(), long.len(), size(n)]);
-    draws(heap, engine, string, size(n), long.as_slice())
+    tally.add_bytes(&long);
+    tally.add_shape([string.len(), long.len(), size.get()]);
+    draws(bench, string, size, &long)
 }
 
 // Whether case n gives the reference's box, and the box the message, in pieces.
 fn box_agrees<E: Engine + Copy>(
-    heap: Global,
-    engine: E,
+    bench: &Bench<E>,
     n: usize,
-    pool: &[u8],
     tally: &mut Tally,
 ) -> Result<bool, AllocError> {
-    let ad = window(pool, n, length(n / 4));
-    let message = window(pool, 5000 + n % 100, length(n / 40));
+    let (sealed, added, size) = shape(n);
+    let ad = window(bench.pool, n, added);
+    let message = window(bench.pool, 5000 + n % 100, sealed);
     let case = Case::nth(n, ad, message);
-    let sealed = case.sealed(heap)?;
+    let sealed = case.sealed(bench.heap)?;
     tally.add_bytes(ad);
-    tally.add_bytes(sealed.as_slice());
-    tally.add_shape([ad.len(), message.len(), size(n)]);
-    let attempt = Attempt::intact(sealed.as_slice(), message);
+    tally.add_bytes(&sealed);
+    tally.add_shape([ad.len(), message.len(), size.get()]);
+    let attempt = Attempt::intact(&sealed, message);
     Ok(
-        seals(heap, engine, &case, sealed.as_slice(), size(n))?
-            && attempt.agrees(heap, engine, &case, size(n))?
-            && attempt.reference_agrees(heap, &case)?,
+        seals(bench, &case, &sealed, size)?
+            && attempt.agrees(bench, &case, size)?
+            && attempt.reference_agrees(bench.heap, &case)?,
     )
 }
 
@@ -87,25 +87,23 @@ impl Group {
     fn cases(self) -> usize {
         match self {
             Group::Permutations => STATES,
-            Group::Digests => SHAPES,
-            Group::Boxes => SHAPES,
-            Group::Damaged => DAMAGED,
+            Group::Digests | Group::Boxes => LENGTHS.len() * LENGTHS.len() * SIZES.len(),
+            // each damage of a box of each length, the empty message last: no buffer is too short for that
+            Group::Damaged => DAMAGES.len() * LENGTHS.len() - 2,
         }
     }
 
     fn agrees<E: Engine + Copy>(
         self,
-        heap: Global,
-        engine: E,
+        bench: &Bench<E>,
         n: usize,
-        pool: &[u8],
         tally: &mut Tally,
     ) -> Result<bool, AllocError> {
         match self {
-            Group::Permutations => Ok(permutation_agrees(engine, n, pool)),
-            Group::Digests => digest_agrees(heap, engine, n, pool, tally),
-            Group::Boxes => box_agrees(heap, engine, n, pool, tally),
-            Group::Damaged => damage::agrees(heap, engine, n, pool, tally),
+            Group::Permutations => Ok(permutation_agrees(bench, n)),
+            Group::Digests => digest_agrees(bench, n, tally),
+            Group::Boxes => box_agrees(bench, n, tally),
+            Group::Damaged => damage::agrees(bench, n, tally),
         }
     }
 
@@ -113,14 +111,12 @@ impl Group {
     pub(crate) fn run<E: Engine + Copy>(
         self,
         rt: &HostRuntime,
-        engine_name: &str,
-        engine: E,
-        pool: &[u8],
+        bench: &Bench<E>,
         tally: &mut Tally,
     ) -> anyhow::Result<()> {
         for n in 0..self.cases() {
-            let agrees = self.agrees(rt.alloc(), engine, n, pool, tally)?;
-            tally.note(rt, engine_name, n, agrees)?;
+            let agrees = self.agrees(bench, n, tally)?;
+            tally.note(rt, bench.name, n, agrees)?;
         }
         Ok(())
     }

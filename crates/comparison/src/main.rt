@@ -2,6 +2,7 @@
 // agrees, and what does not.
 #![tactic(auto)]
 
+mod bench;
 mod case;
 mod controls;
 mod damage;

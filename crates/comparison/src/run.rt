@@ -1,69 +1,79 @@
 // One run over the groups of cases, with a line for each.
+use crate::bench::Bench;
 use crate::case::make_pool;
 use crate::controls;
 use crate::group::Group;
 use crate::tally::Tally;
-use anyhow::anyhow;
 use engine::engine::WIDTH;
+use engine::refusal::Refusal;
 use gimli::plain::PlainEngine;
 use gimli::standing::StandingEngine;
 use gimli::three_share::ThreeShareEngine;
+use std::alloc::Global;
+use std::array;
 
-const PLAIN: &str = "the plain engine";
-
-const STANDING: &str = "the standing engine";
-
-const THREE_SHARE: &str = "the three-share engine";
+const GROUPS: [Group; 4] = [
+    Group::Permutations,
+    Group::Digests,
+    Group::Boxes,
+    Group::Damaged,
+];
 
 #[derive(Clone, Copy)]
-struct Engines {
-    plain: PlainEngine,
-    standing: StandingEngine,
-    three_share: ThreeShareEngine,
+struct Benches<'a> {
+    plain: Bench<'a, PlainEngine>,
+    standing: Bench<'a, StandingEngine>,
+    three_share: Bench<'a, ThreeShareEngine>,
 }
 
 fn mask(step: u8) -> [u8; WIDTH] {
-    let mut mask = [0; WIDTH];
-    for place in 0..WIDTH {
-        mask[place] = step.wrapping_mul(1 + place as u8);
-    }
-    mask
+    array::from_fn(|place| step.wrapping_mul(1 + place as u8))
 }
 
-fn make_engines() -> anyhow::Result<Engines> {
-    let Ok(three_share) = ThreeShareEngine::new(&mask(0x35), &mask(0xc9)) else {
-        return Err(anyhow!("a mask is refused"));
-    };
-    Ok(Engines {
-        plain: PlainEngine::new(),
-        standing: StandingEngine::new(),
-        three_share,
+fn set_up(heap: Global, pool: &[u8]) -> Result<Benches<'_>, Refusal> {
+    Ok(Benches {
+        plain: Bench {
+            name: "the plain engine",
+            engine: PlainEngine::new(),
+            heap,
+            pool,
+        },
+        standing: Bench {
+            name: "the standing engine",
+            engine: StandingEngine::new(),
+            heap,
+            pool,
+        },
+        three_share: Bench {
+            name: "the three-share engine",
+            engine: ThreeShareEngine::new(&mask(0x35), &mask(0xc9))?,
+            heap,
+            pool,
+        },
     })
 }
 
-fn run_group(rt: &HostRuntime, engines: Engines, pool: &[u8], group: Group) -> anyhow::Result<()> {
+fn run_group(rt: &HostRuntime, benches: &Benches, group: Group) -> anyhow::Result<()> {
     let mut tally = Tally::new(group.name());
-    group.run(rt, PLAIN, engines.plain, pool, &mut tally)?;
-    group.run(rt, STANDING, engines.standing, pool, &mut tally)?;
-    group.run(rt, THREE_SHARE, engines.three_share, pool, &mut tally)?;
+    group.run(rt, &benches.plain, &mut tally)?;
+    group.run(rt, &benches.standing, &mut tally)?;
+    group.run(rt, &benches.three_share, &mut tally)?;
     tally.print(rt)?;
     Ok(())
 }
 
-fn run_controls(rt: &HostRuntime, engines: Engines, pool: &[u8]) -> anyhow::Result<()> {
+fn run_controls(rt: &HostRuntime, bench: &Bench<PlainEngine>) -> anyhow::Result<()> {
     let mut tally = Tally::new("wrong expectations");
-    controls::count(rt.alloc(), engines.plain, pool, &mut tally)?;
+    controls::count(bench, &mut tally)?;
     tally.print(rt)?;
     Ok(())
 }
 
 pub(crate) fn run(rt: &HostRuntime) -> anyhow::Result<()> {
-    let engines = make_engines()?;
     let pool = make_pool(rt.alloc())?;
-    run_group(rt, engines, pool.as_slice(), Group::Permutations)?;
-    run_group(rt, engines, pool.as_slice(), Group::Digests)?;
-    run_group(rt, engines, pool.as_slice(), Group::Boxes)?;
-    run_group(rt, engines, pool.as_slice(), Group::Damaged)?;
-    run_controls(rt, engines, pool.as_slice())?;
-    Ok(())
+    let benches = set_up(rt.alloc(), &pool)?;
+    for group in GROUPS {
+        run_group(rt, &benches, group)?;
+    }
+    run_controls(rt, &benches.plain)
 }

@@ -1,7 +1,7 @@
 // How many runs of a group agree, over how many bytes and in which shapes: fewer or shorter cases would agree too.
 use std::io;
 
-#[derive(Clone, Copy)]
+#[derive(Clone, Copy, Default)]
 pub(crate) struct Tally {
     group: &'static str,
     agreed: u32,
@@ -14,10 +14,7 @@ impl Tally {
     pub(crate) fn new(group: &'static str) -> Tally {
         Tally {
             group,
-            agreed: 0,
-            runs: 0,
-            bytes: 0,
-            shapes: 0,
+            ..Tally::default()
         }
     }
 
@@ -40,8 +37,7 @@ impl Tally {
         if agrees {
             return Ok(());
         }
-        let group = self.group;
-        println!(rt; "{group}: {name} differs in {n}")
+        println!(rt; "{}: {name} differs in {n}", self.group)
     }
 
     // Counts the bytes of a string that was compared.
@@ -57,16 +53,17 @@ impl Tally {
     }
 
     pub(crate) fn print(self, rt: &HostRuntime) -> io::Result<()> {
-        let group = self.group;
-        let agreed = self.agreed;
-        let runs = self.runs;
+        let Tally {
+            group,
+            agreed,
+            runs,
+            bytes,
+            shapes,
+        } = self;
         print!(rt; "{group}: {agreed} of {runs} agree")?;
-        match self.bytes {
+        match bytes {
             0 => println!(rt; ""),
-            bytes => {
-                let shapes = self.shapes;
-                println!(rt; ", over {bytes} bytes, shapes {shapes}")
-            }
+            _ => println!(rt; ", over {bytes} bytes, shapes {shapes}"),
         }
     }
 }
