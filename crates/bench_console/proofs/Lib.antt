@@ -1,2 +1,2 @@
-mod Cutting
 mod Lines
+mod Reach

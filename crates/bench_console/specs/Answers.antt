@@ -1,6 +1,6 @@
 -- How a call that ran is shown: its number, its words, what it is answered.
 use Rattle.std.specs.Prelude.{ℕ, ◌+◌, List, [], ◌∷◌, ◌++◌, vec_items, codes, decimal}
-use Rattle.engine.specs.Refusals.{number}
+use Rattle.engine.specs.Refusals.{refused}
 use Rattle.hex_text.specs.Hex.{hex}
 use Rattle.runs.specs.Names.{call_name}
 use Rattle.runs.specs.declared.script.Call.{Call}
@@ -21,7 +21,7 @@ told Done = codes "done"
 told (Nonce n) = hex n
 told (Length n) = decimal n
 told (Tag t) = hex t
-told (Refused e) = codes "refused " ++ decimal (number e)
+told (Refused e) = refused e
 
 -- a reply, and the buffer behind it
 abbrev pub buffered : Reply → List ℕ → List ℕ

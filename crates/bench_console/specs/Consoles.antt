@@ -27,11 +27,11 @@ list_string = either (λ v. flat_map force_bytes (vec_items v)) (λ v. flat_map 
 abbrev pub ShowsRun : (List ℕ → List ℕ) → NonceBook → List (Step Lists) → Screen → Type 0
 ShowsRun rule book script (NotUnderstood l) = ⊥
 ShowsRun rule book script (Refused l e) = ⊥
-ShowsRun rule book script (Ran after n) = (left : NonceBook) × Outcome rule list_string book script n left (vec_items after)
+ShowsRun rule book script (Ran run) = (left : NonceBook) × Outcome rule list_string book script run.ran left (vec_items run.steps)
 
 -- whatever the input: a run that is shown is the run of some script on some book over the Gimli rule, with all that the
 -- law of runs says of it
 abbrev pub ConsoleShows : Screen → Type 0
 ConsoleShows (NotUnderstood l) = Unit {0}
 ConsoleShows (Refused l e) = Unit {0}
-ConsoleShows (Ran after n) = (book : NonceBook) × (script : List (Step Lists)) × ShowsRun gimli book script (Ran after n)
+ConsoleShows (Ran run) = (book : NonceBook) × (script : List (Step Lists)) × ShowsRun gimli book script (Ran run)

@@ -1,6 +1,6 @@
 // A call that ran, as a line.
 ghost use Rattle.std.specs.Prelude.{Some};
-ghost use Rattle.bench_console.specs.Answers.{shown as string_text, told, buffered, answer, line, lines};
+ghost use Rattle.bench_console.specs.Answers.{shown as string_text, told, answer, line, lines};
 
 use crate::calls::Lists;
 use hex_text::showing::Hex;
@@ -34,25 +34,10 @@ impl fmt::Display for Told<'_> {
             Reply::NotRun => write!(f, "not run"),
             Reply::Done => write!(f, "done"),
             Reply::Nonce(nonce) => write!(f, "{}", Hex(nonce)),
-            Reply::Length(n) => write!(f, "{}", *n),
+            Reply::Length(n) => write!(f, "{n}"),
             Reply::Tag(tag) => write!(f, "{}", Hex(tag)),
-            Reply::Refused(e) => write!(f, "refused {}", e.number()),
+            Reply::Refused(e) => write!(f, "{e}"),
         }
-    }
-}
-
-// A reply, and the buffer behind it.
-#[derive(Drop)]
-struct Buffered<'a> {
-    reply: &'a Reply,
-    buffer: &'a [u8],
-}
-
-impl fmt::Display for Buffered<'_> {
-    ghost output = { λ b. Some (buffered b.reply.now b.buffer.now) };
-
-    fn fmt<W: fmt::Write>(&self, f: &mut fmt::Formatter<W>) -> fmt::Result {
-        write!(f, "{} {}", Told(self.reply), Shown(self.buffer))
     }
 }
 
@@ -66,11 +51,10 @@ impl fmt::Display for Answer<'_> {
     fn fmt<W: fmt::Write>(&self, f: &mut fmt::Formatter<W>) -> fmt::Result {
         let reply = &self.0.reply;
         match &self.0.call {
-            Call::StartSealing { key: _, issue: _ } => write!(f, "done"),
+            Call::StartSealing { .. } => write!(f, "done"),
             Call::Draw { buffer } => write!(f, "{}", Shown(buffer.as_slice())),
-            Call::Write { piece: _, buffer } | Call::Open { sealed: _, buffer } => {
-                let buffer = buffer.as_slice();
-                write!(f, "{}", Buffered { reply, buffer })
+            Call::Write { buffer, .. } | Call::Open { buffer, .. } => {
+                write!(f, "{} {}", Told(reply), Shown(buffer.as_slice()))
             }
             _ => write!(f, "{}", Told(reply)),
         }
@@ -102,9 +86,8 @@ impl fmt::Display for Lines<'_> {
     ghost output = { λ l. Some (lines 1 l.0.now) };
 
     fn fmt<W: fmt::Write>(&self, f: &mut fmt::Formatter<W>) -> fmt::Result {
-        let steps = self.0;
-        for at in 0..steps.len() {
-            let (number, step) = (at + 1, &steps[at]);
+        for (before, step) in self.0.iter().enumerate() {
+            let number = before + 1;
             write!(f, "{}", Line { number, step })?;
         }
         Ok(())

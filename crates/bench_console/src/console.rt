@@ -5,8 +5,10 @@ ghost use Rattle.bench_console.specs.Consoles.{ShowsRun, ConsoleShows};
 
 use crate::calls::Lists;
 use crate::faults::Fault;
+use crate::run::Run;
 use crate::screen::Screen;
 use crate::script::{Chosen, Faulty, Script, read_script};
+use crate::words::lines;
 use cipher::book::NonceBook;
 use engine::engine::Engine;
 use runs::run::{Ended, run};
@@ -19,7 +21,7 @@ where
     ensures { ShowsRun E.rule book steps.items result }
 {
     let Ended { engine: _, ran } = run(&mut book, engine, steps.as_mut_slice());
-    Screen::Ran(steps, ran)
+    Screen::Ran(Run { steps, ran })
 }
 
 fn run_script(script: Script) -> Screen
@@ -41,7 +43,8 @@ fn run_script(script: Script) -> Screen
 pub fn console(heap: Global, input: &[u8]) -> Result<Screen, AllocError>
     ensures { IfOk result ConsoleShows }
 {
-    match read_script(heap, input) {
+    let lines = lines(heap, input)?;
+    match read_script(heap, lines.as_slice()) {
         Ok(script) => Ok(run_script(script)),
         Err(Faulty { line, fault }) => match fault {
             Fault::NotUnderstood => Ok(Screen::NotUnderstood(line)),

@@ -6,6 +6,7 @@ mod calls;
 mod console;
 mod faults;
 mod making;
+mod run;
 mod screen;
 mod script;
 mod words;
