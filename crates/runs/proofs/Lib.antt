@@ -4,5 +4,4 @@ mod Moves
 mod Nonces
 mod Progress
 mod Sorts
-mod Spending
 mod Stepping

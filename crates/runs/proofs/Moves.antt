@@ -1,9 +1,9 @@
 -- What one call makes of a stage, by the call.
-use Rattle.std.proofs.Common.{◌≡◌, ℕ, ◌+◌, ◌-◌, ◌≤◌, ◌⊎◌, List, [], ◌++◌, length, take, drop, replicate, Some, Ok, Err, Result, sym, ap, ◌∙◌, subst, inl, inr, append-nil, arith, length-append}
+use Rattle.std.proofs.Common.{◌≡◌, ℕ, ◌+◌, ◌-◌, ◌≤◌, ◌⊎◌, List, [], ◌++◌, length, take, drop, replicate, Ok, Err, Result, sym, refl, ap, ◌∙◌, subst, inl, inr, append-nil, arith}
 use Rattle.std.proofs.lemmas.List.{drop_at}
 use Rattle.engine.specs.Refusals.{number}
 use Rattle.engine.specs.declared.refusal.Refusal.{Refusal}
-use Rattle.sponge.specs.Blocks.{absorbed, ciphertext, cipher_full, boxed, sealed_box, output}
+use Rattle.sponge.specs.Blocks.{absorbed, ciphertext, cipher_full, boxed, sealed_box}
 use Rattle.sponge.specs.Calls.{Pads}
 use Rattle.sponge.specs.Steps.{State, at, standing, absorbing}
 use Rattle.cipher.proofs.Ciphertexts.{length_cipher_piece}
@@ -11,20 +11,12 @@ use Rattle.cipher.specs.Ciphering.{cipher_piece, Tags}
 use Rattle.cipher.specs.Openings.{Opens, TooShort, NoRoom, NoMessage}
 use Rattle.cipher.specs.Sealings.{Wrote}
 use Rattle.cipher.specs.declared.sealing.ClosedSealing.{ClosedSealing}
-use Rattle.digest.specs.Digests.{Drawn}
-use Rattle.digest.specs.declared.drawing.Drawing.{Drawing}
-use Rattle.runs.proofs.Lawful.{grown-nothing, none_drawn}
-use Rattle.runs.specs.Allowed.{leads, use_of}
-use Rattle.runs.specs.Asks.{asked}
-use Rattle.runs.specs.History.{done, refused, closed, written, opened, finished, feeding_ended, drawn}
+use Rattle.runs.proofs.Lawful.{grown-nothing}
+use Rattle.runs.specs.History.{done, refused, closed, written, opened, finished}
 use Rattle.runs.specs.Laws.{Refuses}
-use Rattle.runs.specs.Scripts.{a_length, a_refusal, kind, Replied, call_event, buffer_in, answer_in, reply_to}
-use Rattle.runs.specs.Stages.{point_of, keyed, loaded, Adds, Writes, Holds, Cleared, Ran}
+use Rattle.runs.specs.Scripts.{a_length, a_refusal, kind, answer_in, reply_to}
+use Rattle.runs.specs.Stages.{keyed, loaded, Adds, Writes}
 use Rattle.runs.specs.Traces.{Model, next, Sound}
-use Rattle.runs.specs.declared.script.Call.{Call}
-use Rattle.runs.specs.declared.script.Reply.{Reply}
-use Rattle.runs.specs.declared.script.Step.{Step}
-use Rattle.runs.specs.declared.stage.Stage.{Stage}
 
 module _ {E : Type 0} (meaning : E → List ℕ) (rule : List ℕ → List ℕ) where
   -- ---- sealings
@@ -106,38 +98,7 @@ module _ {E : Type 0} (meaning : E → List ℕ) (rule : List ℕ → List ℕ) 
   at_open M box before after (Ok n) o = answered_ok M box before after n o
   at_open M box before after (Err e) o = answered_err M box before after e o
 
-  -- ---- digests
-
-  abbrev Draws : Drawing E → Model → Type 0
-  Draws d M = Drawn meaning rule d M.so_far.input (length M.so_far.draw) × (M.so_far.draw ≡ output rule M.so_far.input (length M.so_far.draw))
-
-  pub after_end : (M : Model) (d : Drawing E) → M.so_far.draw ≡ [] → Drawn meaning rule d M.so_far.input 0 → Draws d (next M feeding_ended)
-  after_end M d none drawn0 =
-      subst (Draws d) (sym (grown-nothing M)) (rw none drawn0, rw none (none_drawn rule M.so_far.input))
-
-  pub at_draw : (M : Model) (bytes : List ℕ) → M.so_far.draw ≡ output rule M.so_far.input (length M.so_far.draw) → output rule M.so_far.input (length M.so_far.draw + length bytes) ≡ output rule M.so_far.input (length M.so_far.draw) ++ bytes → Sound rule M (drawn bytes)
-  at_draw M bytes so_far more =
-      ap (λ (x : List ℕ). x ++ bytes) so_far ∙ sym more ∙ ap (output rule M.so_far.input) (sym (length-append M.so_far.draw bytes))
-
-  pub after_draw : (M : Model) (d : Drawing E) (bytes : List ℕ) → Sound rule M (drawn bytes) → Drawn meaning rule d M.so_far.input (length M.so_far.draw + length bytes) → Draws d (next M (drawn bytes))
-  after_draw M d bytes sound more = rw append-nil (rw length-append more, sound)
-
-  -- a length or a refusal
-  pub length_or_refusal : (r : Result ℕ Refusal) (y : Reply) → y ≡ reply_to r → (kind y ≡ a_length) ⊎ (kind y ≡ a_refusal)
-  length_or_refusal (Ok n) y e = inl (ap kind e)
-  length_or_refusal (Err x) y e = inr (ap kind e)
-
-  -- ---- a step whose call is known
-
-  module _ {L : Type 0} (string : L → List ℕ) where
-    pub ran_by : (s t : Stage E) (x y : Step L) (k : Call L) → x.call ≡ k → leads (point_of s) k ≡ Some (point_of t) → ((M : Model) → Holds meaning rule s M → Sound rule M (call_event string k (buffer_in y.call) y.reply)) → ((M : Model) → Holds meaning rule s M → Holds meaning rule t (next M (call_event string k (buffer_in y.call) y.reply))) → Cleared meaning rule t → Replied k y.reply → asked y.call ≡ asked k → use_of y.call ≡ use_of k → y.nonce ≡ x.nonce → Ran meaning rule string s x t y
-    ran_by s t x y k e table sound holds cleared replied asks uses nonce = record {
-      table = ap (leads (point_of s)) e ∙ table;
-      sound = λ M h. subst (λ (k : Call L). Sound rule M (call_event string k (buffer_in y.call) y.reply)) (sym e) (sound M h);
-      holds = λ M h. subst (λ (k : Call L). Holds meaning rule t (next M (call_event string k (buffer_in y.call) y.reply))) (sym e) (holds M h);
-      cleared = cleared;
-      replied = subst (λ (k : Call L). Replied k y.reply) (sym e) replied;
-      asks = asks ∙ ap asked (sym e);
-      uses = uses ∙ ap use_of (sym e);
-      nonce = nonce;
-    }
+-- a length or a refusal
+pub length_or_refusal : (r : Result ℕ Refusal) → (kind (reply_to r) ≡ a_length) ⊎ (kind (reply_to r) ≡ a_refusal)
+length_or_refusal (Ok n) = inl refl
+length_or_refusal (Err e) = inr refl

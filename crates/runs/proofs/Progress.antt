@@ -1,7 +1,8 @@
 -- A run that has come to its i-th call: what holds of the script, the stage and the book, and that one call more keeps it.
-use Rattle.std.proofs.Common.{◌≡◌, ℕ, suc, ◌+◌, ◌<◌, ◌≤◌, Bool, true, false, cond, not, ◌&&◌, eqb, ◌≢◌, ◌⊎◌, List, [], ◌∷◌, ◌++◌, length, get_or, drop, set, Some, None, MatchBool, Option, sym, refl, ap, ◌∙◌, subst, ap₂, inl, inr, add-zero, add_assoc, add-one, arith, eq-eqb, ne_eqb}
+use Rattle.std.proofs.Common.{◌≡◌, ℕ, suc, ◌+◌, ◌<◌, ◌≤◌, Bool, true, false, cond, not, ◌&&◌, eqb, ◌≢◌, ◌⊎◌, List, [], ◌∷◌, ◌++◌, length, get_or, drop, set, Some, None, Ok, Err, Option, Result, sym, refl, ap, ◌∙◌, subst, ap₂, inl, inr, add-zero, add_assoc, add-one, arith, eq-eqb, ne_eqb}
 use Rattle.std.proofs.lemmas.List.{get_or_default, get_or-set_same, get_or-set_other, length-set, length-append, get_or_append_left, get_or_past, get_or_push, set-get_or, drop_all, drop_more, length-map, get_or-map}
-use Rattle.std.proofs.lemmas.Bool.{cases_eq, cases_lt}
+use Rattle.std.proofs.lemmas.Bool.{and_right, cases_eq, cases_lt}
+use Rattle.std.proofs.Math.Bool.{and-true, and_assoc}
 use Rattle.cipher.specs.Keys.{key_bytes}
 use Rattle.cipher.specs.Nonces.{issued_bytes, last_count}
 use Rattle.cipher.specs.declared.book.IssuedNonce.{IssuedNonce}
@@ -22,6 +23,7 @@ use Rattle.runs.specs.declared.script.Call.TheVariants.{Issue}
 use Rattle.runs.specs.declared.script.Reply.{Reply}
 use Rattle.runs.specs.declared.script.Reply.TheVariants.{Nonce}
 use Rattle.runs.specs.declared.script.Step.{Step}
+use Rattle.runs.specs.declared.stage.Misplaced.{Misplaced}
 use Rattle.runs.specs.declared.stage.Stage.{Stage}
 use Rattle.runs.specs.declared.stage.Stage.TheVariants.{Free, AddingSealing, Writing, AddingOpening, ReadyToOpen, Fed, Drawn}
 
@@ -80,25 +82,13 @@ module _ {E : Type 0} (meaning : E → List ℕ) (rule : List ℕ → List ℕ) 
   issued_in_more [] e = omega arith
   issued_in_more (x ∷ h) e = omega (arith, issued_in_more h e)
 
-  and_true : (b : Bool) → (b && true) ≡ b
-  and_true true = refl
-  and_true false = refl
-
-  and_false : (b : Bool) → (b && false) ≡ false
-  and_false true = refl
-  and_false false = refl
-
   along_more : (name : List ℕ) (c : ℕ) (h : List Event) (e : Event) → IssuesAlong name c h → IssueTold name (c + issued_in h) e → IssuesAlong name c (h ++ e ∷ [])
   along_more name c [] e a told = (rw add-zero at told, tt)
   along_more name c (x ∷ h) e a told = (a.0, along_more name (c + nonces_of x) h e a.1 (rw add_assoc told))
 
   untaken_more : (h : List Event) (e : Event) → untaken (h ++ e ∷ []) ≡ (untaken h && bookish e)
-  untaken_more [] e = and_true (bookish e)
-  untaken_more (x ∷ h) e = ap (λ (b : Bool). bookish x && b) (untaken_more h e) ∙ and_assoc (bookish x) (untaken h) (bookish e)
-    where
-      and_assoc : (a b c : Bool) → (a && (b && c)) ≡ ((a && b) && c)
-      and_assoc true b c = refl
-      and_assoc false b c = refl
+  untaken_more [] e = and-true (bookish e)
+  untaken_more (x ∷ h) e = ap (λ (b : Bool). bookish x && b) (untaken_more h e) ∙ sym (and_assoc (bookish x) (untaken h) (bookish e))
 
   kept_same : (s : Stage E) (h h' : List Event) (e : E) → untaken h' ≡ untaken h → Kept meaning s h e → Kept meaning s h' e
   kept_same (Free x) h h' e same k = rw same k
@@ -236,7 +226,7 @@ module _ {E : Type 0} (meaning : E → List ℕ) (rule : List ℕ → List ℕ) 
           sound = sound;
           fresh = fresh;
           holds = rw midway come.holds;
-          kept = kept_same s past (past ++ e ∷ []) e₀ (untaken_more past e ∙ rw bookly (and_true (untaken past))) come.kept;
+          kept = kept_same s past (past ++ e ∷ []) e₀ (untaken_more past e ∙ rw bookly (and-true (untaken past))) come.kept;
           place = issue_place come.place used_up?;
           placed_at = rw (call_is, last);
           point = come.point;
@@ -272,7 +262,7 @@ module _ {E : Type 0} (meaning : E → List ℕ) (rule : List ℕ → List ℕ) 
           refusal.used_up (inr (ap answer_in refusal.reply ∙ ap refused refusal.number_is))
 
     -- a call of the engine, on a script `mid` that is ys but for a nonce taken out
-    module _ (mid : List (Step L)) (t : Stage E) (y : Step L) (same-long : length mid ≡ length ys) (untouched : (j : ℕ) (d : Step L) → i ≤ j → get_or mid j d ≡ get_or ys j d) (mid_alike : (j : ℕ) (d : Step L) → j < i → Alike (get_or mid j d) (get_or ys j d)) (ran : Ran meaning rule string s (get_or mid i d) t y) where
+    module _ (mid : List (Step L)) (t : Stage E) (y : Step L) (same-long : length mid ≡ length ys) (untouched : (j : ℕ) (d : Step L) → i ≤ j → get_or mid j d ≡ get_or ys j d) (mid_alike : (j : ℕ) (d : Step L) → j < i → Alike (get_or mid j d) (get_or ys j d)) (ran : Ran meaning rule string s (get_or mid i d).call t y.call y.reply) where
       abbrev then : List (Step L)
       then = set mid i y
 
@@ -291,8 +281,8 @@ module _ {E : Type 0} (meaning : E → List ℕ) (rule : List ℕ → List ℕ) 
       abbrev e : Event
       e = event string (get_or xs i d) y
 
-      x_ran : Ran meaning rule string s (get_or xs i d) t y
-      x_ran = subst (λ (x : Step L). Ran meaning rule string s x t y) mid_here ran
+      x_ran : Ran meaning rule string s (get_or xs i d).call t y.call y.reply
+      x_ran = subst (λ (x : Step L). Ran meaning rule string s x.call t y.call y.reply) mid_here ran
 
       slots_after : (u : List Bool) → length u ≡ i → ((j : ℕ) (d : Step L) → j < i → get_or u j false ≡ token (get_or mid j d)) → false ≡ token y → (j : ℕ) (d : Step L) → j < suc i → get_or (u ++ false ∷ []) j false ≡ token (get_or then j d)
       slots_after u u-long before none j d k =
@@ -312,7 +302,7 @@ module _ {E : Type 0} (meaning : E → List ℕ) (rule : List ℕ → List ℕ) 
           sound = x_ran.sound (model_after (begun [] []) past) come.holds;
           fresh = fresh;
           holds = x_ran.holds (model_after (begun [] []) past) come.holds;
-          kept = kept_taken t (past ++ e ∷ []) e₀ (untaken_more past e ∙ rw engine's (and_false (untaken past))) x_ran.cleared;
+          kept = kept_taken t (past ++ e ∷ []) e₀ (untaken_more past e ∙ and_right (untaken past) (bookish e) engine's) x_ran.cleared;
           place = record { point = point_of t; count = come.place.count; unspent = u ++ false ∷ [] };
           placed_at = led ∙ ap (placed come.place.count u) x_ran.table;
           point = refl;
@@ -327,9 +317,9 @@ module _ {E : Type 0} (meaning : E → List ℕ) (rule : List ℕ → List ℕ) 
         }
 
     -- a call that has nothing to do with nonces
-    after_plain : (t : Stage E) (y : Step L) → use_of (get_or xs i d).call ≡ neither → Ran meaning rule string s (get_or ys i d) t y → Come b₀ e₀ xs (set ys i y) (suc i) t b
+    after_plain : (t : Stage E) (y : Step L) → use_of (get_or xs i d).call ≡ neither → Ran meaning rule string s (get_or ys i d).call t y.call y.reply → Come b₀ e₀ xs (set ys i y) (suc i) t b
     after_plain t y plain ran =
-        let x_ran : Ran meaning rule string s (get_or xs i d) t y = subst (λ (x : Step L). Ran meaning rule string s x t y) (step_is d) ran in
+        let x_ran : Ran meaning rule string s (get_or xs i d).call t y.call y.reply = subst (λ (x : Step L). Ran meaning rule string s x.call t y.call y.reply) (step_is d) ran in
         let quiet = is_plain string (get_or xs i d).call (buffer_in y.call) y.reply plain in
         let used : use_of y.call ≡ neither = x_ran.uses ∙ plain in
         engine_further ys t y refl (λ j d k. refl) (λ j d k. (refl, refl)) ran quiet.engine's quiet.none_issued (quiet.fresh past) come.place.unspent come.slots_long
@@ -342,7 +332,7 @@ module _ {E : Type 0} (meaning : E → List ℕ) (rule : List ℕ → List ℕ) 
         (quiet.silent b₀.name (b₀.count + issued_in past))
 
     -- a sealing that starts with the nonce of step j
-    after_start : (j : ℕ) (n : IssuedNonce) (t : Stage E) (y : Step L) → use_of (get_or xs i d).call ≡ takes j → j < i → Held (get_or ys j d) n → Ran meaning rule string s (get_or (set ys j (emptied (get_or ys j d))) i d) t y → y.reply ≡ Nonce (issued_bytes n) → Come b₀ e₀ xs (set (set ys j (emptied (get_or ys j d))) i y) (suc i) t b
+    after_start : (j : ℕ) (n : IssuedNonce) (t : Stage E) (y : Step L) → use_of (get_or xs i d).call ≡ takes j → j < i → Held (get_or ys j d) n → Ran meaning rule string s (get_or (set ys j (emptied (get_or ys j d))) i d).call t y.call y.reply → y.reply ≡ Nonce (issued_bytes n) → Come b₀ e₀ xs (set (set ys j (emptied (get_or ys j d))) i y) (suc i) t b
     after_start j n t y takes-j earlier had ran reply =
         let mid = set ys j (emptied (get_or ys j d)) in
         let j_in : j < length ys = omega (arith, inside) in
@@ -357,7 +347,7 @@ module _ {E : Type 0} (meaning : E → List ℕ) (rule : List ℕ → List ℕ) 
         ] in
         let untouched : (k : ℕ) (d : Step L) → i ≤ k → get_or mid k d ≡ get_or ys k d = λ k d' l. other k d' (omega arith) in
         let here : get_or mid i d ≡ get_or xs i d = untouched i d (omega arith) ∙ step_is d in
-        let x_ran : Ran meaning rule string s (get_or xs i d) t y = subst (λ (x : Step L). Ran meaning rule string s x t y) here ran in
+        let x_ran : Ran meaning rule string s (get_or xs i d).call t y.call y.reply = subst (λ (x : Step L). Ran meaning rule string s x.call t y.call y.reply) here ran in
         let start_call = is_start string (get_or xs i d).call j takes-j in
         let k₀ = key_bytes start_call.0 in
         let e_is : event string (get_or xs i d) y ≡ sealing_started k₀ (issued_bytes n) =
@@ -468,13 +458,13 @@ module _ {E : Type 0} (meaning : E → List ℕ) (rule : List ℕ → List ℕ) 
         ]
 
     -- what a call of the engine did, with its use known
-    module _ (u : Use) (t : Stage E) (v : Bool) (b' : NonceBook) (ys' : List (Step L)) (same : use_of (get_or ys i d).call ≡ u) (step : EngineStep meaning rule string s b ys i d (t, v) b' ys') where
+    module _ (u : Use) (r : Result (Stage E) (Misplaced E)) (b' : NonceBook) (ys' : List (Step L)) (same : use_of (get_or ys i d).call ≡ u) (step : EngineStep meaning rule string s b ys i d r b' ys') where
       known : Readied (point_of s) u ys i d step.nonce step.middle
       known = subst (λ (u : Use). Readied (point_of s) u ys i d step.nonce step.middle) same step.readied
 
       -- on the middle script as it is
-      on : (mid : List (Step L)) → step.middle ≡ mid → Advanced meaning rule string s step.nonce (get_or mid i d) (t, v) (get_or ys' i d) × (ys' ≡ set mid i (get_or ys' i d))
-      on mid is = subst (λ (m : List (Step L)). Advanced meaning rule string s step.nonce (get_or m i d) (t, v) (get_or ys' i d) × (ys' ≡ set m i (get_or ys' i d))) is (step.advanced, step.script)
+      on : (mid : List (Step L)) → step.middle ≡ mid → Advanced meaning rule string s step.nonce (get_or mid i d) r (get_or ys' i d) × (ys' ≡ set mid i (get_or ys' i d))
+      on mid is = subst (λ (m : List (Step L)). Advanced meaning rule string s step.nonce (get_or m i d) r (get_or ys' i d) × (ys' ≡ set m i (get_or ys' i d))) is (step.advanced, step.script)
 
     -- back to the script and the book that there are
     come_as : (ys' ys'' : List (Step L)) (t : Stage E) (b' : NonceBook) → ys' ≡ ys'' → b' ≡ b → Come b₀ e₀ xs ys'' (suc i) t b → Come b₀ e₀ xs ys' (suc i) t b'
@@ -483,51 +473,51 @@ module _ {E : Type 0} (meaning : E → List ℕ) (rule : List ℕ → List ℕ) 
     emptied_here : (j : ℕ) → j < i → get_or (set ys j (emptied (get_or ys j d))) i d ≡ get_or ys i d
     emptied_here j earlier = get_or-set_other ys j i (emptied (get_or ys j d)) d (omega arith)
 
-    engine_ran : (u : Use) (t : Stage E) (b' : NonceBook) (ys' : List (Step L)) → use_of (get_or ys i d).call ≡ u → (u ≡ issues → ⊥) → EngineStep meaning rule string s b ys i d (t, true) b' ys' → Come b₀ e₀ xs ys' (suc i) t b'
+    engine_ran : (u : Use) (t : Stage E) (b' : NonceBook) (ys' : List (Step L)) → use_of (get_or ys i d).call ≡ u → (u ≡ issues → ⊥) → EngineStep meaning rule string s b ys i d (Ok t) b' ys' → Come b₀ e₀ xs ys' (suc i) t b'
     engine_ran issues t b' ys' same not-issue step = absurd (not-issue refl)
     engine_ran neither t b' ys' same not-issue step =
-        let now = on neither t true b' ys' same step ys (known neither t true b' ys' same step).1 in
-        come_as ys' (set ys i (get_or ys' i d)) t b' now.1 step.book (after_plain t (get_or ys' i d) (use_here neither same) now.0.ran)
+        let now = on neither (Ok t) b' ys' same step ys (known neither (Ok t) b' ys' same step).1 in
+        come_as ys' (set ys i (get_or ys' i d)) t b' now.1 step.book (after_plain t (get_or ys' i d) (use_here neither same) now.0.0.ran)
     engine_ran (takes j) t b' ys' same not-issue step =
-        elim (middle (point_of s) j step.nonce step.middle refl (known (takes j) t true b' ys' same step)) [
+        elim (middle (point_of s) j step.nonce step.middle refl (known (takes j) (Ok t) b' ys' same step)) [
           | inl m ↦ (
-              let now = on (takes j) t true b' ys' same step ys m.1 in
-              let took : Takes step.nonce (takes j) (get_or ys' i d).reply = subst (λ (u : Use). Takes step.nonce u (get_or ys' i d).reply) same now.0.took in
+              let now = on (takes j) (Ok t) b' ys' same step ys m.1 in
+              let took : Takes step.nonce (takes j) (get_or ys' i d).reply = subst (λ (u : Use). Takes step.nonce u (get_or ys' i d).reply) same now.0.0.took in
               let some = took.1 in
               let none = m.0 in
               no cc)
           | inr m ↦ (
               let mid = set ys j (emptied (get_or ys j d)) in
-              let now = on (takes j) t true b' ys' same step mid m.5 in
+              let now = on (takes j) (Ok t) b' ys' same step mid m.5 in
               let took : Takes step.nonce (takes j) (get_or ys' i d).reply =
-              subst (λ (u : Use). Takes step.nonce u (get_or ys' i d).reply) (ap (λ (x : Step L). use_of x.call) (emptied_here j m.3) ∙ same) now.0.took in
+              subst (λ (u : Use). Takes step.nonce u (get_or ys' i d).reply) (ap (λ (x : Step L). use_of x.call) (emptied_here j m.3) ∙ same) now.0.0.took in
               let one = m.1 in
               let other = took.1 in
               let alike : took.0 ≡ m.0 = cc in
               come_as ys' (set mid i (get_or ys' i d)) t b' now.1 step.book
-              (after_start j m.0 t (get_or ys' i d) (use_here (takes j) same) m.3 m.4 now.0.ran (took.2 ∙ ap (λ (n : IssuedNonce). Nonce (issued_bytes n)) alike)))
+              (after_start j m.0 t (get_or ys' i d) (use_here (takes j) same) m.3 m.4 now.0.0.ran (took.2 ∙ ap (λ (n : IssuedNonce). Nonce (issued_bytes n)) alike)))
         ]
 
-    engine_halts : (u : Use) (t : Stage E) (b' : NonceBook) (ys' : List (Step L)) → use_of (get_or ys i d).call ≡ u → (u ≡ issues → ⊥) → EngineStep meaning rule string s b ys i d (t, false) b' ys' → Halted ys' t b'
-    engine_halts issues t b' ys' same not-issue step = absurd (not-issue refl)
-    engine_halts neither t b' ys' same not-issue step =
-        let now = on neither t false b' ys' same step ys (known neither t false b' ys' same step).1 in
-        let stuck = now.0 in
-        let unchanged : ys' ≡ ys = now.1 ∙ ap (set ys i) stuck.step ∙ set-get_or ys i d in
+    engine_halts : (u : Use) (e : Misplaced E) (b' : NonceBook) (ys' : List (Step L)) → use_of (get_or ys i d).call ≡ u → (u ≡ issues → ⊥) → EngineStep meaning rule string s b ys i d (Err e) b' ys' → Halted ys' e.0 b'
+    engine_halts issues e b' ys' same not-issue step = absurd (not-issue refl)
+    engine_halts neither e b' ys' same not-issue step =
+        let now = on neither (Err e) b' ys' same step ys (known neither (Err e) b' ys' same step).1 in
+        let stuck = now.0.0 in
+        let unchanged : ys' ≡ ys = now.1 ∙ ap (set ys i) now.0.1 ∙ set-get_or ys i d in
         let why : leads (point_of s) (get_or ys i d).call ≡ None = elim stuck.why [ inl n ↦ n | inr lacks ↦ absurd (subst (λ (u : Use). Lacks step.nonce u) same lacks) ] in
-        halted ys' t b' unchanged stuck.stage step.book
+        halted ys' e.0 b' unchanged stuck.stage step.book
         (rw (use_here neither same, come.point) (ap (placed come.place.count come.place.unspent) (ap (λ (x : Step L). leads (point_of s) x.call) (sym (step_is d)) ∙ why)))
-    engine_halts (takes j) t b' ys' same not-issue step =
-        elim (middle (point_of s) j step.nonce step.middle refl (known (takes j) t false b' ys' same step)) [
+    engine_halts (takes j) e b' ys' same not-issue step =
+        elim (middle (point_of s) j step.nonce step.middle refl (known (takes j) (Err e) b' ys' same step)) [
           | inl m ↦ (
-              let now = on (takes j) t false b' ys' same step ys m.1 in
-              let unchanged : ys' ≡ ys = now.1 ∙ ap (set ys i) now.0.step ∙ set-get_or ys i d in
-              halted ys' t b' unchanged now.0.stage step.book (nowhere_start j (use_here (takes j) same) m.2))
+              let now = on (takes j) (Err e) b' ys' same step ys m.1 in
+              let unchanged : ys' ≡ ys = now.1 ∙ ap (set ys i) now.0.1 ∙ set-get_or ys i d in
+              halted ys' e.0 b' unchanged now.0.0.stage step.book (nowhere_start j (use_here (takes j) same) m.2))
           | inr m ↦ (
               let mid = set ys j (emptied (get_or ys j d)) in
-              let now = on (takes j) t false b' ys' same step mid m.5 in
+              let now = on (takes j) (Err e) b' ys' same step mid m.5 in
               let here = emptied_here j m.3 in
-              elim now.0.why [
+              elim now.0.0.why [
                 | inl n ↦ (
                     let call = (is_start string (get_or ys i d).call j same).1 in
                     let led : leads (point_of s) (get_or mid i d).call ≡ Some sealing_adds = ap (λ (x : Step L). leads (point_of s) x.call) here ∙ ap (leads (point_of s)) call ∙ rw m.2 refl in
@@ -540,26 +530,29 @@ module _ {E : Type 0} (meaning : E → List ℕ) (rule : List ℕ → List ℕ) 
         ]
 
     -- any call of a script
-    abbrev Onward : (Stage E × Bool) → NonceBook → List (Step L) → Type 0
-    Onward r b' ys' = MatchBool r.1 (Come b₀ e₀ xs ys' (suc i) r.0 b') (Halted ys' r.0 b')
-
-    by_engine : (u : Use) (t : Stage E) (v : Bool) (b' : NonceBook) (ys' : List (Step L)) → use_of (get_or ys i d).call ≡ u → (u ≡ issues → ⊥) → EngineStep meaning rule string s b ys i d (t, v) b' ys' → Onward (t, v) b' ys'
-    by_engine u t true b' ys' same not-issue step = engine_ran u t b' ys' same not-issue step
-    by_engine u t false b' ys' same not-issue step = engine_halts u t b' ys' same not-issue step
-
-    by_use : (u : Use) (t : Stage E) (v : Bool) (b' : NonceBook) (ys' : List (Step L)) → use_of (get_or ys i d).call ≡ u → SteppedBy meaning rule string u s b ys i d (t, v) b' ys' → Onward (t, v) b' ys'
-    by_use issues t v b' ys' same step =
+    ran_by_use : (u : Use) (t : Stage E) (b' : NonceBook) (ys' : List (Step L)) → use_of (get_or ys i d).call ≡ u → SteppedBy meaning rule string u s b ys i d (Ok t) b' ys' → Come b₀ e₀ xs ys' (suc i) t b'
+    ran_by_use issues t b' ys' same step =
         let came : Come b₀ e₀ xs (set ys i (get_or ys' i d)) (suc i) s b' = after_issue (get_or ys' i d) b' same step.issue in
-        rw (step.ran, step.stage, step.script) came
-    by_use (takes j) t v b' ys' same step = by_engine (takes j) t v b' ys' same (λ e. no cc) step
-    by_use neither t v b' ys' same step = by_engine neither t v b' ys' same (λ e. no cc) step
+        let ran = step.ran in
+        let stage : t ≡ s = cc in
+        rw (stage, step.script) came
+    ran_by_use (takes j) t b' ys' same step = engine_ran (takes j) t b' ys' same (λ e. no cc) step
+    ran_by_use neither t b' ys' same step = engine_ran neither t b' ys' same (λ e. no cc) step
 
-    pub onward : (r : Stage E × Bool) (b' : NonceBook) (ys' : List (Step L)) → Stepped meaning rule string s b ys i d r b' ys' → Onward r b' ys'
-    onward r b' ys' step = by_use (use_of (get_or ys i d).call) r.0 r.1 b' ys' refl step
+    pub come_on : (t : Stage E) (b' : NonceBook) (ys' : List (Step L)) → Stepped meaning rule string s b ys i d (Ok t) b' ys' → Come b₀ e₀ xs ys' (suc i) t b'
+    come_on t b' ys' step = ran_by_use (use_of (get_or ys i d).call) t b' ys' refl step
+
+    halts_by_use : (u : Use) (e : Misplaced E) (b' : NonceBook) (ys' : List (Step L)) → use_of (get_or ys i d).call ≡ u → SteppedBy meaning rule string u s b ys i d (Err e) b' ys' → Halted ys' e.0 b'
+    halts_by_use issues e b' ys' same step = let ran = step.ran in no cc
+    halts_by_use (takes j) e b' ys' same step = engine_halts (takes j) e b' ys' same (λ e. no cc) step
+    halts_by_use neither e b' ys' same step = engine_halts neither e b' ys' same (λ e. no cc) step
+
+    pub halt : (e : Misplaced E) (b' : NonceBook) (ys' : List (Step L)) → Stepped meaning rule string s b ys i d (Err e) b' ys' → Halted ys' e.0 b'
+    halt e b' ys' step = halts_by_use (use_of (get_or ys i d).call) e b' ys' refl step
 
   -- ---- the end
 
-  pub ended : (b₀ : NonceBook) (e₀ : E) (xs ys : List (Step L)) (n : ℕ) (s : Stage E) (b : NonceBook) → Come b₀ e₀ xs ys n s b → how_far (calls xs) (start b₀) ≡ n → RanCalls meaning rule string b₀ e₀ xs s n b ys
+  ended : (b₀ : NonceBook) (e₀ : E) (xs ys : List (Step L)) (n : ℕ) (s : Stage E) (b : NonceBook) → Come b₀ e₀ xs ys n s b → how_far (calls xs) (start b₀) ≡ n → RanCalls meaning rule string b₀ e₀ xs s n b ys
   ended b₀ e₀ xs ys n s b come far = record {
     outcome = record {
       far = sym far;
@@ -575,25 +568,26 @@ module _ {E : Type 0} (meaning : E → List ℕ) (rule : List ℕ → List ℕ) 
   }
 
   -- all calls ran
-  pub all_ran : (b₀ : NonceBook) (e₀ : E) (xs ys : List (Step L)) (n : ℕ) (s : Stage E) (b : NonceBook) → Come b₀ e₀ xs ys n s b → length xs ≤ n → how_far (calls xs) (start b₀) ≡ n
-  all_ran b₀ e₀ xs ys n s b come over =
+  pub all_ran : (b₀ : NonceBook) (e₀ : E) (xs ys : List (Step L)) (n : ℕ) (s : Stage E) (b : NonceBook) → Come b₀ e₀ xs ys n s b → n ≤ length xs → length xs ≤ n → RanCalls meaning rule string b₀ e₀ xs s (length ys) b ys
+  all_ran b₀ e₀ xs ys n s b come under over =
       let none : drop n (calls xs) ≡ [] = drop_all n (calls xs) (rw (length-map xs (λ (x : Step L). x.call)) over) in
-      come.far ∙ ap (λ (cs : List (Call L)). n + how_far cs come.place) none ∙ omega arith
+      let far : how_far (calls xs) (start b₀) ≡ n = come.far ∙ ap (λ (cs : List (Call L)). n + how_far cs come.place) none ∙ omega arith in
+      let all : n ≡ length ys = omega (arith, come.long) in
+      rw (← all) (ended b₀ e₀ xs ys n s b come far)
 
   -- one call of a script, at any default for what stands past its end
-  module _ (b₀ : NonceBook) (e₀ : E) (xs ys ys' : List (Step L)) (i : ℕ) (s t : Stage E) (b b' : NonceBook) (come : Come b₀ e₀ xs ys i s b) (within : i < length xs) where
+  module _ (b₀ : NonceBook) (e₀ : E) (xs ys ys' : List (Step L)) (i : ℕ) (s : Stage E) (b b' : NonceBook) (come : Come b₀ e₀ xs ys i s b) (within : i < length xs) where
     some_step : (zs : List (Step L)) → i < length zs → Step L
     some_step (z ∷ zs) k = z
     some_step [] k = absurd (omega arith)
 
-    pub come_further : (v : Bool) → v ≡ true → ((d : Step L) → Stepped meaning rule string s b ys i d (t, v) b' ys') → Come b₀ e₀ xs ys' (i + 1) t b'
-    come_further v stood step =
+    pub come_further : (t : Stage E) → ((d : Step L) → Stepped meaning rule string s b ys i d (Ok t) b' ys') → Come b₀ e₀ xs ys' (i + 1) t b'
+    come_further t step =
         let d = some_step xs within in
-        let on = rw stood at (onward b₀ e₀ xs ys i s b come within d (t, v) b' ys' (step d)) in
-        rw (add-one i) on
+        rw (add-one i) (come_on b₀ e₀ xs ys i s b come within d t b' ys' (step d))
 
-    pub come_halted : (v : Bool) → v ≡ false → ((d : Step L) → Stepped meaning rule string s b ys i d (t, v) b' ys') → RanCalls meaning rule string b₀ e₀ xs t i b' ys'
-    come_halted v halts step =
+    pub come_halted : (e : Misplaced E) → ((d : Step L) → Stepped meaning rule string s b ys i d (Err e) b' ys') → RanCalls meaning rule string b₀ e₀ xs e.0 i b' ys'
+    come_halted e step =
         let d = some_step xs within in
-        let stop = rw halts at (onward b₀ e₀ xs ys i s b come within d (t, v) b' ys' (step d)) in
+        let stop = halt b₀ e₀ xs ys i s b come within d e b' ys' (step d) in
         rw (stop.script, stop.stage, stop.book) (ended b₀ e₀ xs ys i s b come stop.far)

@@ -1,5 +1,5 @@
 -- What a stage holds of what the engine has been given, and what one call makes of it.
-use Rattle.std.specs.Prelude.{◌≡◌, ℕ, ◌<◌, ◌≤◌, Bool, true, false, ◌⊎◌, List, [], ◌++◌, length, get_or, is_some, Some, None, MatchBool, Option, slice_index_or, slice_set}
+use Rattle.std.specs.Prelude.{◌≡◌, ℕ, ◌<◌, ◌≤◌, Bool, false, ◌⊎◌, List, [], ◌++◌, length, get_or, is_some, Some, None, Ok, Err, Option, Result, slice_index_or, slice_set}
 use Rattle.engine.specs.Refusals.{number}
 use Rattle.engine.specs.Strings.{zeros}
 use Rattle.engine.specs.declared.refusal.Refusal.{Refusal}
@@ -11,11 +11,13 @@ use Rattle.cipher.specs.declared.book.NonceBook.{NonceBook}
 use Rattle.digest.specs.Digests.{Fed as FedWith, Drawn as DrawnFrom}
 use Rattle.runs.specs.Allowed.{Point, free, sealing_adds, sealing_writes, opening_adds, opening_opens, digest_feeds, digest_draws, leads, Use, issues, takes, neither, use_of}
 use Rattle.runs.specs.Asks.{asked}
-use Rattle.runs.specs.Scripts.{Replied, event}
+use Rattle.runs.specs.Scripts.{Replied, buffer_in, call_event}
 use Rattle.runs.specs.Traces.{Model, next, Sound}
+use Rattle.runs.specs.declared.script.Call.{Call}
 use Rattle.runs.specs.declared.script.Reply.{Reply}
 use Rattle.runs.specs.declared.script.Reply.TheVariants.{Nonce, Refused}
 use Rattle.runs.specs.declared.script.Step.{Step}
+use Rattle.runs.specs.declared.stage.Misplaced.{Misplaced}
 use Rattle.runs.specs.declared.stage.Stage.{Stage}
 use Rattle.runs.specs.declared.stage.Stage.TheVariants.{Free, AddingSealing, Writing, AddingOpening, ReadyToOpen, Fed, Drawn}
 
@@ -61,16 +63,6 @@ TakesNonce x (Some n) y = (use_of x.call ≡ issues) × (x.nonce ≡ Some n) × 
 abbrev pub Spends : {L : Type 0} → List (Step L) → ℕ → ℕ → Step L → Option IssuedNonce → List (Step L) → Type 0
 Spends xs j at d None ys = (ys ≡ xs) × ((at ≤ j) ⊎ (token (slice_index_or xs j d) ≡ false))
 Spends xs j at d (Some n) ys = (j < at) × (use_of (get_or xs j d).call ≡ issues) × ((get_or xs j d).nonce ≡ Some n) × (ys ≡ slice_set xs j (emptied (slice_index_or xs j d)))
-
-abbrev pub wanted_by : Use → Option ℕ
-wanted_by issues = None
-wanted_by (takes i) = Some i
-wanted_by neither = None
-
-abbrev pub issues_by : Use → Bool
-issues_by issues = true
-issues_by (takes i) = false
-issues_by neither = false
 
 abbrev pub if_free : Point → Type 0 → Type 0 → Type 0
 if_free free P Q = P
@@ -154,47 +146,52 @@ module _ {E : Type 0} (meaning : E → List ℕ) (rule : List ℕ → List ℕ) 
   Cleared (Drawn d) = Unit {0}
 
   module _ {L : Type 0} (string : L → List ℕ) where
-    -- a call that may stand in the stage s ran: the step x became y, and the stage is t
-    pub record Ran (s : Stage E) (x : Step L) (t : Stage E) (y : Step L) : Type 0 where
-      pub table : leads (point_of s) x.call ≡ Some (point_of t)
-      pub sound : (M : Model) → Holds s M → Sound rule M (event string x y)
-      pub holds : (M : Model) → Holds s M → Holds t (next M (event string x y))
+    -- a call that may stand in the stage s ran: the call x became y, the stage is t, and the reply r
+    pub record Ran (s : Stage E) (x : Call L) (t : Stage E) (y : Call L) (r : Reply) : Type 0 where
+      pub table : leads (point_of s) x ≡ Some (point_of t)
+      pub sound : (M : Model) → Holds s M → Sound rule M (call_event string x (buffer_in y) r)
+      pub holds : (M : Model) → Holds s M → Holds t (next M (call_event string x (buffer_in y) r))
       pub cleared : Cleared t
-      pub replied : Replied x.call y.reply
-      pub asks : asked y.call ≡ asked x.call
-      pub uses : use_of y.call ≡ use_of x.call
-      pub nonce : y.nonce ≡ x.nonce
-
-    -- the same of a call that may take a nonce
-    pub record Took (s : Stage E) (nonce : Option IssuedNonce) (x : Step L) (t : Stage E) (y : Step L) : Type 0 where
-      pub ran : Ran s x t y
-      pub took : Takes nonce (use_of x.call) y.reply
-
-    -- a call that may not stand in the stage s, or lacks its nonce: nothing is changed
-    pub record Stuck (s : Stage E) (nonce : Option IssuedNonce) (x : Step L) (t : Stage E) (y : Step L) : Type 0 where
-      pub why : (leads (point_of s) x.call ≡ None) ⊎ Lacks nonce (use_of x.call)
-      pub stage : t ≡ s
-      pub step : y ≡ x
-
-    abbrev pub Advanced : Stage E → Option IssuedNonce → Step L → (Stage E × Bool) → Step L → Type 0
-    Advanced s nonce x r y = MatchBool r.1 (Took s nonce x r.0 y) (Stuck s nonce x r.0 y)
+      pub replied : Replied x r
+      pub asks : asked y ≡ asked x
+      pub uses : use_of y ≡ use_of x
 
     -- a call that may not stand in the stage s: nothing is changed
-    pub record Misplaced (s : Stage E) (x : Step L) (t : Stage E) (y : Step L) : Type 0 where
-      pub table : leads (point_of s) x.call ≡ None
+    pub record IsMisplaced (s : Stage E) (x : Call L) (t : Stage E) (y : Call L) : Type 0 where
+      pub table : leads (point_of s) x ≡ None
       pub stage : t ≡ s
-      pub step : y ≡ x
+      pub call : y ≡ x
 
-    abbrev pub Moved : Stage E → Step L → (Stage E × Bool) → Step L → Type 0
-    Moved s x r y = MatchBool r.1 (Ran s x r.0 y) (Misplaced s x r.0 y)
+    abbrev pub Moved : Stage E → Call L → Result (Stage E × Reply) (Misplaced E) → Call L → Type 0
+    Moved s x (Ok (t, r)) y = Ran s x t y r
+    Moved s x (Err e) y = IsMisplaced s x e.0 y
 
-    pub record IssueStep (s : Stage E) (b : NonceBook) (xs : List (Step L)) (at : ℕ) (d : Step L) (r : Stage E × Bool) (b' : NonceBook) (ys : List (Step L)) : Type 0 where
-      pub ran : r.1 ≡ true
-      pub stage : r.0 ≡ s
+    -- the same of a call that may take a nonce
+    pub record Took (s : Stage E) (nonce : Option IssuedNonce) (x : Call L) (t : Stage E) (y : Call L) (r : Reply) : Type 0 where
+      pub ran : Ran s x t y r
+      pub took : Takes nonce (use_of x) r
+
+    -- the same of a call that may not stand in the stage s, or lacks its nonce
+    pub record IsStuck (s : Stage E) (nonce : Option IssuedNonce) (x : Call L) (t : Stage E) (y : Call L) : Type 0 where
+      pub why : (leads (point_of s) x ≡ None) ⊎ Lacks nonce (use_of x)
+      pub stage : t ≡ s
+      pub call : y ≡ x
+
+    abbrev pub CallTaken : Stage E → Option IssuedNonce → Call L → Result (Stage E × Reply) (Misplaced E) → Call L → Type 0
+    CallTaken s nonce x (Ok (t, r)) y = Took s nonce x t y r
+    CallTaken s nonce x (Err e) y = IsStuck s nonce x e.0 y
+
+    -- the same of a step, which shows the reply
+    abbrev pub Advanced : Stage E → Option IssuedNonce → Step L → Result (Stage E) (Misplaced E) → Step L → Type 0
+    Advanced s nonce x (Ok t) y = Took s nonce x.call t y.call y.reply × (y.nonce ≡ x.nonce)
+    Advanced s nonce x (Err e) y = IsStuck s nonce x.call e.0 y.call × (y ≡ x)
+
+    pub record IssueStep (s : Stage E) (b : NonceBook) (xs : List (Step L)) (at : ℕ) (d : Step L) (r : Result (Stage E) (Misplaced E)) (b' : NonceBook) (ys : List (Step L)) : Type 0 where
+      pub ran : r ≡ Ok s
       pub issue : IssueRan b (slice_index_or xs at d) b' (slice_index_or ys at d)
       pub script : ys ≡ slice_set xs at (slice_index_or ys at d)
 
-    pub record EngineStep (s : Stage E) (b : NonceBook) (xs : List (Step L)) (at : ℕ) (d : Step L) (r : Stage E × Bool) (b' : NonceBook) (ys : List (Step L)) : Type 0 where
+    pub record EngineStep (s : Stage E) (b : NonceBook) (xs : List (Step L)) (at : ℕ) (d : Step L) (r : Result (Stage E) (Misplaced E)) (b' : NonceBook) (ys : List (Step L)) : Type 0 where
       pub book : b' ≡ b
       -- the nonce, and the script without it
       pub nonce : Option IssuedNonce
@@ -204,10 +201,10 @@ module _ {E : Type 0} (meaning : E → List ℕ) (rule : List ℕ → List ℕ) 
       pub script : ys ≡ slice_set middle at (slice_index_or ys at d)
 
     -- one call of a script: issue is the book's; any other is the engine's, with a nonce if it starts a sealing
-    abbrev pub SteppedBy : Use → Stage E → NonceBook → List (Step L) → ℕ → Step L → (Stage E × Bool) → NonceBook → List (Step L) → Type 0
+    abbrev pub SteppedBy : Use → Stage E → NonceBook → List (Step L) → ℕ → Step L → Result (Stage E) (Misplaced E) → NonceBook → List (Step L) → Type 0
     SteppedBy issues s b xs at d r b' ys = IssueStep s b xs at d r b' ys
     SteppedBy (takes i) s b xs at d r b' ys = EngineStep s b xs at d r b' ys
     SteppedBy neither s b xs at d r b' ys = EngineStep s b xs at d r b' ys
 
-    abbrev pub Stepped : Stage E → NonceBook → List (Step L) → ℕ → Step L → (Stage E × Bool) → NonceBook → List (Step L) → Type 0
+    abbrev pub Stepped : Stage E → NonceBook → List (Step L) → ℕ → Step L → Result (Stage E) (Misplaced E) → NonceBook → List (Step L) → Type 0
     Stepped s b xs at d r b' ys = SteppedBy (use_of (get_or xs at d).call) s b xs at d r b' ys

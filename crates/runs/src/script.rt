@@ -3,7 +3,7 @@ ghost use Rattle.std.specs.Prelude.{◌≡◌};
 ghost use Rattle.runs.specs.Names.{call_name};
 ghost use Rattle.runs.specs.Scripts.{fresh};
 
-use cipher::book::IssuedNonce;
+use cipher::book::{IssuedNonce, NonceBook};
 use cipher::key::Key;
 use cipher::nonce::{BoxNonce, NONCE_LEN};
 use cipher::sealing::TAG_LEN;
@@ -35,23 +35,17 @@ impl<L> Call<L> {
     {
         match self {
             Call::Issue => "issue",
-            Call::StartSealing { key: _, issue: _ } => "start sealing",
-            Call::StartOpening { key: _, nonce: _ } => "start opening",
-            Call::Add { piece: _ } => "add",
+            Call::StartSealing { .. } => "start sealing",
+            Call::StartOpening { .. } => "start opening",
+            Call::Add { .. } => "add",
             Call::Close => "close",
-            Call::Write {
-                piece: _,
-                buffer: _,
-            } => "write",
+            Call::Write { .. } => "write",
             Call::Finish => "finish",
-            Call::Open {
-                sealed: _,
-                buffer: _,
-            } => "open",
+            Call::Open { .. } => "open",
             Call::BeginDigest => "begin digest",
-            Call::Feed { piece: _ } | Call::FeedList { list: _ } => "feed",
+            Call::Feed { .. } | Call::FeedList { .. } => "feed",
             Call::EndFeeding => "end feeding",
-            Call::Draw { buffer: _ } => "draw",
+            Call::Draw { .. } => "draw",
             Call::Release => "release",
         }
     }
@@ -69,6 +63,19 @@ pub enum Reply {
     Refused(Refusal),
 }
 
+impl From<Result<usize, Refusal>> for Reply {
+    ghost use Rattle.runs.specs.Scripts.{reply_to};
+
+    ghost from_gives = { λ r reply. reply ≡ reply_to r };
+
+    fn from(r: Result<usize, Refusal>) -> Reply {
+        match r {
+            Ok(n) => Reply::Length(n),
+            Err(e) => Reply::Refused(e),
+        }
+    }
+}
+
 #[derive(Drop)]
 pub struct Step<L> {
     pub call: Call<L>,
@@ -78,6 +85,8 @@ pub struct Step<L> {
 }
 
 impl<L> Step<L> {
+    ghost use Rattle.runs.specs.Stages.{TakesNonce, IssueRan};
+
     // A step that has not run.
     pub fn new(call: Call<L>) -> Step<L>
         ensures { result ≡ fresh call }
@@ -86,6 +95,33 @@ impl<L> Step<L> {
             call,
             reply: Reply::NotRun,
             nonce: None,
+        }
+    }
+
+    // The nonce that the step issued and still holds.
+    pub(crate) fn take_nonce(&mut self) -> Option<IssuedNonce>
+        ensures { TakesNonce self.old result self.new }
+    {
+        match &self.call {
+            Call::Issue => self.nonce.take(),
+            _ => None,
+        }
+    }
+
+    // Issues a nonce, which the step then holds.
+    pub(crate) fn issue(&mut self, book: &mut NonceBook)
+        ensures { IssueRan book.old self.old book.new self.new }
+    {
+        // two fields by one answer, each set in its arm
+        match book.issue() {
+            Ok(nonce) => {
+                self.reply = Reply::Nonce(*nonce.bytes());
+                self.nonce = Some(nonce);
+            }
+            Err(e) => {
+                self.reply = Reply::Refused(e);
+                self.nonce = None;
+            }
         }
     }
 }

@@ -14,3 +14,25 @@ pub(crate) enum Stage<E> {
     Fed(Feeding<E>),
     Drawn(Drawing<E>),
 }
+
+// A call that may not stand where it does: the stage, as it was.
+pub(crate) struct Misplaced<E>(pub(crate) Stage<E>);
+
+impl<E: Engine> Stage<E> {
+    ghost use Rattle.runs.specs.Stages.{Released};
+
+    // The engine, whatever is open given up.
+    pub(crate) fn release(self) -> E
+        ensures { Released E.meaning self result }
+    {
+        match self {
+            Stage::Free(engine) => engine,
+            Stage::AddingSealing(sealing) => sealing.release(),
+            Stage::Writing(sealing) => sealing.release(),
+            Stage::AddingOpening(opening) => opening.release(),
+            Stage::ReadyToOpen(opening) => opening.release(),
+            Stage::Fed(feeding) => feeding.release(),
+            Stage::Drawn(drawing) => drawing.release(),
+        }
+    }
+}

@@ -1,194 +1,162 @@
-// One call of a run, by the stage in which it stands. `false`: it may not stand there, and nothing is changed.
-ghost use Rattle.std.specs.Prelude.{◌≡◌};
-ghost use Rattle.runs.specs.Scripts.{reply_to};
-ghost use Rattle.runs.specs.Stages.{Advanced, Moved};
+// One call of a run, by the stage in which it stands: the stage that comes, and the reply.
+ghost use Rattle.runs.specs.Stages.{CallTaken, Moved};
 
 use crate::list::ItemList;
-use crate::script::{Call, Reply, Step};
-use crate::stage::Stage;
-use cipher::book::{IssuedNonce, NonceBook};
+use crate::script::{Call, Reply};
+use crate::stage::{Misplaced, Stage};
+use cipher::book::IssuedNonce;
 use cipher::opening::{ClosedOpening, Opening};
 use cipher::sealing::{ClosedSealing, Sealing, TAG_LEN};
 use digest::drawing::Drawing;
 use digest::feeding::Feeding;
 use engine::engine::Engine;
-use engine::refusal::Refusal;
 
-fn length_or_refusal(r: Result<usize, Refusal>) -> Reply
-    ensures { result ≡ reply_to r }
+// Any call but issue, which is the book's. The nonce is for a sealing that starts.
+pub(crate) fn take_call<E: Engine, L: ItemList>(
+    stage: Stage<E>,
+    nonce: Option<IssuedNonce>,
+    call: &mut Call<L>,
+) -> Result<(Stage<E>, Reply), Misplaced<E>>
+    ensures { CallTaken E.meaning E.rule L.string stage nonce call.old result call.new }
 {
-    match r {
-        Ok(n) => Reply::Length(n),
-        Err(e) => Reply::Refused(e),
+    match stage {
+        Stage::Free(engine) => from_free(engine, nonce, call),
+        Stage::AddingSealing(sealing) => from_adding_sealing(sealing, call),
+        Stage::Writing(sealing) => from_writing(sealing, call),
+        Stage::AddingOpening(opening) => from_adding_opening(opening, call),
+        Stage::ReadyToOpen(opening) => from_ready_to_open(opening, call),
+        Stage::Fed(feeding) => from_fed(feeding, call),
+        Stage::Drawn(drawing) => from_drawn(drawing, call),
     }
 }
 
-pub(crate) fn from_free<E: Engine, L: ItemList>(
+fn from_free<E: Engine, L: ItemList>(
     engine: E,
     nonce: Option<IssuedNonce>,
-    step: &mut Step<L>,
-) -> (Stage<E>, bool)
-    ensures { Advanced E.meaning E.rule L.string (Stage.Free engine) nonce step.old result step.new }
+    call: &Call<L>,
+) -> Result<(Stage<E>, Reply), Misplaced<E>>
+    ensures { CallTaken E.meaning E.rule L.string (Stage.Free engine) nonce call.now result call.now }
 {
-    match (&step.call, nonce) {
-        (Call::StartSealing { key, issue: _ }, Some(nonce)) => {
-            let bytes = *nonce.bytes();
+    match (call, nonce) {
+        (Call::StartSealing { key, .. }, Some(nonce)) => {
+            let reply = Reply::Nonce(*nonce.bytes());
             let sealing = Sealing::start(engine, key, nonce);
-            step.reply = Reply::Nonce(bytes);
-            (Stage::AddingSealing(sealing), true)
+            Ok((Stage::AddingSealing(sealing), reply))
         }
         (Call::StartOpening { key, nonce: from }, _) => {
             let opening = Opening::start(engine, key, from);
-            step.reply = Reply::Done;
-            (Stage::AddingOpening(opening), true)
+            Ok((Stage::AddingOpening(opening), Reply::Done))
         }
-        (Call::BeginDigest, _) => {
-            step.reply = Reply::Done;
-            (Stage::Fed(Feeding::begin(engine)), true)
-        }
-        (_, _) => (Stage::Free(engine), false),
+        (Call::BeginDigest, _) => Ok((Stage::Fed(Feeding::begin(engine)), Reply::Done)),
+        (_, _) => Err(Misplaced(Stage::Free(engine))),
     }
 }
 
-pub(crate) fn from_adding_sealing<E: Engine, L: ItemList>(
+// As from_adding_opening, arm by arm: a trait for the two would repeat add, close and release for each of them.
+fn from_adding_sealing<E: Engine, L: ItemList>(
     sealing: Sealing<E>,
-    step: &mut Step<L>,
-) -> (Stage<E>, bool)
-    ensures { Moved E.meaning E.rule L.string (Stage.AddingSealing sealing) step.old result step.new }
+    call: &Call<L>,
+) -> Result<(Stage<E>, Reply), Misplaced<E>>
+    ensures { Moved E.meaning E.rule L.string (Stage.AddingSealing sealing) call.now result call.now }
 {
-    match &step.call {
+    match call {
         Call::Add { piece } => {
             let sealing = sealing.add(piece.as_slice());
-            step.reply = Reply::Done;
-            (Stage::AddingSealing(sealing), true)
+            Ok((Stage::AddingSealing(sealing), Reply::Done))
         }
-        Call::Close => {
-            step.reply = Reply::Done;
-            (Stage::Writing(sealing.close()), true)
-        }
-        Call::Release => {
-            step.reply = Reply::Done;
-            (Stage::Free(sealing.release()), true)
-        }
-        _ => (Stage::AddingSealing(sealing), false),
+        Call::Close => Ok((Stage::Writing(sealing.close()), Reply::Done)),
+        Call::Release => Ok((Stage::Free(sealing.release()), Reply::Done)),
+        _ => Err(Misplaced(Stage::AddingSealing(sealing))),
     }
 }
 
-pub(crate) fn from_writing<E: Engine, L: ItemList>(
+fn from_writing<E: Engine, L: ItemList>(
     sealing: ClosedSealing<E>,
-    step: &mut Step<L>,
-) -> (Stage<E>, bool)
-    ensures { Moved E.meaning E.rule L.string (Stage.Writing sealing) step.old result step.new }
+    call: &mut Call<L>,
+) -> Result<(Stage<E>, Reply), Misplaced<E>>
+    ensures { Moved E.meaning E.rule L.string (Stage.Writing sealing) call.old result call.new }
 {
-    match &mut step.call {
+    match call {
         Call::Write { piece, buffer } => {
-            let (sealing, r) = sealing.write(piece.as_slice(), buffer.as_mut_slice());
-            step.reply = length_or_refusal(r);
-            (Stage::Writing(sealing), true)
+            let (sealing, answer) = sealing.write(piece.as_slice(), buffer.as_mut_slice());
+            Ok((Stage::Writing(sealing), Reply::from(answer)))
         }
         Call::Finish => {
             let mut tag = [0; TAG_LEN];
             let engine = sealing.finish(&mut tag);
-            step.reply = Reply::Tag(tag);
-            (Stage::Free(engine), true)
+            Ok((Stage::Free(engine), Reply::Tag(tag)))
         }
-        Call::Release => {
-            step.reply = Reply::Done;
-            (Stage::Free(sealing.release()), true)
-        }
-        _ => (Stage::Writing(sealing), false),
+        Call::Release => Ok((Stage::Free(sealing.release()), Reply::Done)),
+        _ => Err(Misplaced(Stage::Writing(sealing))),
     }
 }
 
-pub(crate) fn from_adding_opening<E: Engine, L: ItemList>(
+fn from_adding_opening<E: Engine, L: ItemList>(
     opening: Opening<E>,
-    step: &mut Step<L>,
-) -> (Stage<E>, bool)
-    ensures { Moved E.meaning E.rule L.string (Stage.AddingOpening opening) step.old result step.new }
+    call: &Call<L>,
+) -> Result<(Stage<E>, Reply), Misplaced<E>>
+    ensures { Moved E.meaning E.rule L.string (Stage.AddingOpening opening) call.now result call.now }
 {
-    match &step.call {
+    match call {
         Call::Add { piece } => {
             let opening = opening.add(piece.as_slice());
-            step.reply = Reply::Done;
-            (Stage::AddingOpening(opening), true)
+            Ok((Stage::AddingOpening(opening), Reply::Done))
         }
-        Call::Close => {
-            step.reply = Reply::Done;
-            (Stage::ReadyToOpen(opening.close()), true)
-        }
-        Call::Release => {
-            step.reply = Reply::Done;
-            (Stage::Free(opening.release()), true)
-        }
-        _ => (Stage::AddingOpening(opening), false),
+        Call::Close => Ok((Stage::ReadyToOpen(opening.close()), Reply::Done)),
+        Call::Release => Ok((Stage::Free(opening.release()), Reply::Done)),
+        _ => Err(Misplaced(Stage::AddingOpening(opening))),
     }
 }
 
-pub(crate) fn from_ready_to_open<E: Engine, L: ItemList>(
+fn from_ready_to_open<E: Engine, L: ItemList>(
     opening: ClosedOpening<E>,
-    step: &mut Step<L>,
-) -> (Stage<E>, bool)
-    ensures { Moved E.meaning E.rule L.string (Stage.ReadyToOpen opening) step.old result step.new }
+    call: &mut Call<L>,
+) -> Result<(Stage<E>, Reply), Misplaced<E>>
+    ensures { Moved E.meaning E.rule L.string (Stage.ReadyToOpen opening) call.old result call.new }
 {
-    match &mut step.call {
+    match call {
         Call::Open { sealed, buffer } => {
-            let (engine, r) = opening.open(sealed.as_slice(), buffer.as_mut_slice());
-            step.reply = length_or_refusal(r);
-            (Stage::Free(engine), true)
+            let (engine, answer) = opening.open(sealed.as_slice(), buffer.as_mut_slice());
+            Ok((Stage::Free(engine), Reply::from(answer)))
         }
-        Call::Release => {
-            step.reply = Reply::Done;
-            (Stage::Free(opening.release()), true)
-        }
-        _ => (Stage::ReadyToOpen(opening), false),
+        Call::Release => Ok((Stage::Free(opening.release()), Reply::Done)),
+        _ => Err(Misplaced(Stage::ReadyToOpen(opening))),
     }
 }
 
-pub(crate) fn from_fed<E: Engine, L: ItemList>(
+fn from_fed<E: Engine, L: ItemList>(
     feeding: Feeding<E>,
-    step: &mut Step<L>,
-) -> (Stage<E>, bool)
-    ensures { Moved E.meaning E.rule L.string (Stage.Fed feeding) step.old result step.new }
+    call: &Call<L>,
+) -> Result<(Stage<E>, Reply), Misplaced<E>>
+    ensures { Moved E.meaning E.rule L.string (Stage.Fed feeding) call.now result call.now }
 {
-    match &step.call {
+    match call {
         Call::Feed { piece } => {
             let feeding = feeding.feed(piece.as_slice());
-            step.reply = Reply::Done;
-            (Stage::Fed(feeding), true)
+            Ok((Stage::Fed(feeding), Reply::Done))
         }
         Call::FeedList { list } => {
             let feeding = list.feed_into(feeding);
-            step.reply = Reply::Done;
-            (Stage::Fed(feeding), true)
+            Ok((Stage::Fed(feeding), Reply::Done))
         }
-        Call::EndFeeding => {
-            step.reply = Reply::Done;
-            (Stage::Drawn(feeding.end_feeding()), true)
-        }
-        Call::Release => {
-            step.reply = Reply::Done;
-            (Stage::Free(feeding.release()), true)
-        }
-        _ => (Stage::Fed(feeding), false),
+        Call::EndFeeding => Ok((Stage::Drawn(feeding.end_feeding()), Reply::Done)),
+        Call::Release => Ok((Stage::Free(feeding.release()), Reply::Done)),
+        _ => Err(Misplaced(Stage::Fed(feeding))),
     }
 }
 
-pub(crate) fn from_drawn<E: Engine, L: ItemList>(
+fn from_drawn<E: Engine, L: ItemList>(
     drawing: Drawing<E>,
-    step: &mut Step<L>,
-) -> (Stage<E>, bool)
-    ensures { Moved E.meaning E.rule L.string (Stage.Drawn drawing) step.old result step.new }
+    call: &mut Call<L>,
+) -> Result<(Stage<E>, Reply), Misplaced<E>>
+    ensures { Moved E.meaning E.rule L.string (Stage.Drawn drawing) call.old result call.new }
 {
-    match &mut step.call {
+    match call {
         Call::Draw { buffer } => {
             let drawing = drawing.draw(buffer.as_mut_slice());
-            step.reply = Reply::Done;
-            (Stage::Drawn(drawing), true)
+            Ok((Stage::Drawn(drawing), Reply::Done))
         }
-        Call::Release => {
-            step.reply = Reply::Done;
-            (Stage::Free(drawing.release()), true)
-        }
-        _ => (Stage::Drawn(drawing), false),
+        Call::Release => Ok((Stage::Free(drawing.release()), Reply::Done)),
+        _ => Err(Misplaced(Stage::Drawn(drawing))),
     }
 }
