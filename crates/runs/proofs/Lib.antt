@@ -1,7 +1,10 @@
+mod EngineCalls
 mod Histories
+mod Issuing
 mod Lawful
 mod Moves
 mod Nonces
+mod Onward
 mod Progress
 mod Sorts
 mod Stepping

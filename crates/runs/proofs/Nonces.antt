@@ -15,6 +15,9 @@ use Rattle.runs.specs.declared.script.Step.{Step}
 abbrev pub Held : {L : Type 0} → Step L → IssuedNonce → Type 0
 Held x n = (use_of x.call ≡ issues) × (x.nonce ≡ Some n)
 
+pub same_held : {L : Type 0} (x y : Step L) (n : IssuedNonce) → x ≡ y → Held x n → Held y n
+same_held x y n same held = rw same at held
+
 -- a nonce of the book's name and a count that has passed
 abbrev pub Counted : NonceBook → List ℕ → Type 0
 Counted b n = (c : ℕ) × (c < b.count) × (n ≡ nonce_of b.name c)

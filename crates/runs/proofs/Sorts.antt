@@ -1,5 +1,5 @@
 -- A call issues, or starts a sealing, or has nothing to do with nonces; and what its event then is.
-use Rattle.std.proofs.Common.{◌≡◌, ℕ, false, ◌⊎◌, List, refl, ap, ◌∙◌, inl, inr}
+use Rattle.std.proofs.Common.{◌≡◌, ℕ, false, ◌⊎◌, List, refl, ap, ◌∙◌, inl, inr, rules}
 use Rattle.cipher.specs.declared.key.Key.{Key}
 use Rattle.runs.specs.Allowed.{issues, takes, neither, use_of}
 use Rattle.runs.specs.History.{Event, sealing_started}
@@ -24,18 +24,18 @@ module _ {L : Type 0} (string : L → List ℕ) where
   sort : (c : Call L) → (c ≡ Issue) ⊎ (((k : Key) × ((i : ℕ) × (c ≡ StartSealing k i))) ⊎ ((use_of c ≡ neither) × ((after : List ℕ) (r : Reply) → Plain (call_event string c after r))))
   sort Issue = inl refl
   sort (StartSealing k i) = inr (inl (k, (i, refl)))
-  sort (StartOpening k n) = inr (inr (refl, λ after r. record { none_issued = refl; engine's = refl; fresh = λ p. tt; no_start = λ k n e. no cc; silent = λ name count. tt }))
-  sort (Add a) = inr (inr (refl, λ after r. record { none_issued = refl; engine's = refl; fresh = λ p. tt; no_start = λ k n e. no cc; silent = λ name count. tt }))
-  sort Close = inr (inr (refl, λ after r. record { none_issued = refl; engine's = refl; fresh = λ p. tt; no_start = λ k n e. no cc; silent = λ name count. tt }))
-  sort (Write m b) = inr (inr (refl, λ after r. record { none_issued = refl; engine's = refl; fresh = λ p. tt; no_start = λ k n e. no cc; silent = λ name count. tt }))
-  sort Finish = inr (inr (refl, λ after r. record { none_issued = refl; engine's = refl; fresh = λ p. tt; no_start = λ k n e. no cc; silent = λ name count. tt }))
-  sort (Open s b) = inr (inr (refl, λ after r. record { none_issued = refl; engine's = refl; fresh = λ p. tt; no_start = λ k n e. no cc; silent = λ name count. tt }))
-  sort BeginDigest = inr (inr (refl, λ after r. record { none_issued = refl; engine's = refl; fresh = λ p. tt; no_start = λ k n e. no cc; silent = λ name count. tt }))
-  sort (Feed f) = inr (inr (refl, λ after r. record { none_issued = refl; engine's = refl; fresh = λ p. tt; no_start = λ k n e. no cc; silent = λ name count. tt }))
-  sort (FeedList l) = inr (inr (refl, λ after r. record { none_issued = refl; engine's = refl; fresh = λ p. tt; no_start = λ k n e. no cc; silent = λ name count. tt }))
-  sort EndFeeding = inr (inr (refl, λ after r. record { none_issued = refl; engine's = refl; fresh = λ p. tt; no_start = λ k n e. no cc; silent = λ name count. tt }))
-  sort (Draw b) = inr (inr (refl, λ after r. record { none_issued = refl; engine's = refl; fresh = λ p. tt; no_start = λ k n e. no cc; silent = λ name count. tt }))
-  sort Release = inr (inr (refl, λ after r. record { none_issued = refl; engine's = refl; fresh = λ p. tt; no_start = λ k n e. no cc; silent = λ name count. tt }))
+  sort (StartOpening k n) = inr (inr (refl, λ after r. search rules))
+  sort (Add a) = inr (inr (refl, λ after r. search rules))
+  sort Close = inr (inr (refl, λ after r. search rules))
+  sort (Write m b) = inr (inr (refl, λ after r. search rules))
+  sort Finish = inr (inr (refl, λ after r. search rules))
+  sort (Open s b) = inr (inr (refl, λ after r. search rules))
+  sort BeginDigest = inr (inr (refl, λ after r. search rules))
+  sort (Feed f) = inr (inr (refl, λ after r. search rules))
+  sort (FeedList l) = inr (inr (refl, λ after r. search rules))
+  sort EndFeeding = inr (inr (refl, λ after r. search rules))
+  sort (Draw b) = inr (inr (refl, λ after r. search rules))
+  sort Release = inr (inr (refl, λ after r. search rules))
 
   pub is_issue : (c : Call L) → use_of c ≡ issues → c ≡ Issue
   is_issue c u = elim (sort c) [ inl e ↦ e | inr w ↦ elim w [ inl p ↦ (let e = p.1.1 in no cc) | inr p ↦ (let e = p.0 in no cc) ] ]
