@@ -70,7 +70,8 @@ impl<E: Engine> Sponge<E> {
 
     // Changes the byte at the place by xor with b.
     pub fn xor_in(&mut self, b: u8)
-        ensures { standing E.meaning self.new ≡ xored_in (standing E.meaning self.old) b }
+        ensures state { standing E.meaning self.new ≡ xored_in (standing E.meaning self.old) b }
+        ensures place { self.new.place ≡ self.old.place }
     {
         self.engine.xor_byte(self.place % RATE, b).unwrap();
     }
