@@ -1,6 +1,4 @@
 pub mod Backward
-pub mod Boxes
 pub mod Openings
 pub mod Rows
 pub mod Shared
-pub mod Thirds

@@ -8,6 +8,7 @@ ghost use Rattle.cipher.specs.Openings.{Opens};
 ghost use Rattle.c_interface.specs.Faults.{answer_of};
 ghost use Rattle.c_interface.specs.Opening.{OpenAnswered};
 
+use crate::answer::answer_of;
 use cipher::key::Key;
 use cipher::nonce::BoxNonce;
 use cipher::opening::Opening;
@@ -15,7 +16,7 @@ use engine::refusal::Refusal;
 use gimli::plain::PlainEngine;
 
 // The first bytes of `message` become the message of the box, which has 16 bytes less.
-// Of a box that is refused for its tag, zeros stand where its message would.
+// Of a box that is refused for its tag, zeros stand where its message would. C passes each string by itself.
 #[unsafe(no_mangle)]
 pub extern "C" fn gimli_open(
     key: &[u8],
@@ -26,10 +27,7 @@ pub extern "C" fn gimli_open(
 ) -> u8
     ensures { OpenAnswered key.now nonce.now ad.now sealed.now message.old message.new result }
 {
-    match open(key, nonce, ad, sealed, message) {
-        Ok(_) => 0,
-        Err(refusal) => refusal.number(),
-    }
+    answer_of(open(key, nonce, ad, sealed, message))
 }
 
 fn open(

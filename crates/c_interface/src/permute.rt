@@ -1,6 +1,7 @@
 // One permutation of a state's string, on each kind of engine.
 ghost use Rattle.std.specs.Prelude.{◌≡◌, ◌*◌, length};
 ghost use Rattle.engine.specs.Strings.{width};
+ghost use Rattle.gimli.specs.Permutation.{permutation};
 ghost use Rattle.gimli.specs.Strings.{string};
 ghost use Rattle.c_interface.specs.Permuting.{row_bytes, sharing_string, Permuted, SharesRead, SharesPermuted};
 
@@ -10,16 +11,12 @@ use gimli::shares::Shares;
 use gimli::standing::standing_permutation;
 use gimli::state::State;
 
-// Permutes a state's string as the plain engine does. `false`: it is not 48 bytes, and is as it was.
+// Permutes a state's string as the plain engine does. `false`: it is not 48 bytes, and is as it was (C has no Option).
 #[unsafe(no_mangle)]
 pub extern "C" fn gimli_permute_plain(state: &mut [u8]) -> bool
     ensures { Permuted state.old result state.new }
 {
-    let Some(words) = State::from_bytes(state) else {
-        return false;
-    };
-    state.copy_from_slice(&bytes(permutation(words)));
-    true
+    permute_string(state, permutation)
 }
 
 // The same as the standing engine does it.
@@ -27,15 +24,8 @@ pub extern "C" fn gimli_permute_plain(state: &mut [u8]) -> bool
 pub extern "C" fn gimli_permute_standing(state: &mut [u8]) -> bool
     ensures { Permuted state.old result state.new }
 {
-    let Some(words) = State::from_bytes(state) else {
-        return false;
-    };
-    state.copy_from_slice(&bytes(standing_permutation(words).stored));
-    true
+    permute_string(state, |words| standing_permutation(words).stored)
 }
-
-// The number of bytes in three shares.
-const SHARES_LEN: usize = 3 * WIDTH;
 
 // Permutes three shares, one behind another, as the three-share engine does.
 // `false`: they are not three times 48 bytes, and are as they were.
@@ -50,18 +40,36 @@ pub extern "C" fn gimli_permute_three_share(shares: &mut [u8]) -> bool
     true
 }
 
+// Permutes a state's string by a function that permutes a state; `false`, and nothing, if it is no state's.
+fn permute_string<F: Fn(State) -> State>(string: &mut [u8], permute: F) -> bool
+    requires callable { F.IsAlwaysCallable permute }
+    requires permutes { (s t : _) → F.post permute s t → t ≡ permutation s }
+    ensures { Permuted string.old result string.new }
+{
+    let Some(words) = State::from_bytes(string) else {
+        return false;
+    };
+    string.copy_from_slice(&bytes(permute(words)));
+    true
+}
+
 // The three shares of a string; none of another length.
 fn read_shares(string: &[u8]) -> Option<Shares>
     ensures { SharesRead string.now result }
 {
-    if string.len() != SHARES_LEN {
+    let (parts, rest) = string.as_chunks::<WIDTH>();
+    let [zeroth, first, second] = parts else {
+        return None;
+    };
+    if !rest.is_empty() {
         return None;
     }
-    let zeroth = State::from_bytes(&string[0..WIDTH])?;
-    let first = State::from_bytes(&string[WIDTH..2 * WIDTH])?;
-    let second = State::from_bytes(&string[2 * WIDTH..SHARES_LEN])?;
     Some(Shares {
-        share: [zeroth, first, second],
+        share: [
+            State::from_bytes(zeroth)?,
+            State::from_bytes(first)?,
+            State::from_bytes(second)?,
+        ],
     })
 }
 
@@ -70,20 +78,20 @@ fn write_shares(shares: Shares, string: &mut [u8])
     requires { length string.old ≡ 3 * width }
     ensures { string.new ≡ sharing_string shares.share }
 {
-    let [zeroth, first, second] = shares.share;
-    string[0..WIDTH].copy_from_slice(&bytes(zeroth));
-    string[WIDTH..2 * WIDTH].copy_from_slice(&bytes(first));
-    string[2 * WIDTH..SHARES_LEN].copy_from_slice(&bytes(second));
+    string.copy_from_slice(shares.share.map(bytes).as_flattened());
 }
 
 // The string of a state.
 fn bytes(state: State) -> [u8; WIDTH]
     ensures { result ≡ string state }
 {
+    let rows = [
+        row_bytes(state.top),
+        row_bytes(state.middle),
+        row_bytes(state.bottom),
+    ];
     let mut string = [0; WIDTH];
-    string[0..16].copy_from_slice(&row_bytes(state.top));
-    string[16..32].copy_from_slice(&row_bytes(state.middle));
-    string[32..48].copy_from_slice(&row_bytes(state.bottom));
+    string.copy_from_slice(rows.as_flattened());
     string
 }
 
@@ -91,11 +99,7 @@ fn bytes(state: State) -> [u8; WIDTH]
 fn row_bytes(row: [u32; 4]) -> [u8; 16]
     ensures { result ≡ row_bytes row }
 {
-    let [a0, a1, a2, a3] = row[0].to_le_bytes();
-    let [b0, b1, b2, b3] = row[1].to_le_bytes();
-    let [c0, c1, c2, c3] = row[2].to_le_bytes();
-    let [d0, d1, d2, d3] = row[3].to_le_bytes();
-    [
-        a0, a1, a2, a3, b0, b1, b2, b3, c0, c1, c2, c3, d0, d1, d2, d3,
-    ]
+    let mut bytes = [0; 16];
+    bytes.copy_from_slice(row.map(u32::to_le_bytes).as_flattened());
+    bytes
 }

@@ -7,6 +7,7 @@ ghost use Rattle.cipher.specs.Nonces.{issued_bytes};
 ghost use Rattle.c_interface.specs.Faults.{answer_of};
 ghost use Rattle.c_interface.specs.Sealing.{SealAnswered};
 
+use crate::answer::answer_of;
 use cipher::book::{IssuedNonce, NonceBook};
 use cipher::key::Key;
 use cipher::nonce::NONCE_LEN;
@@ -16,7 +17,7 @@ use engine::refusal::Refusal;
 use gimli::plain::PlainEngine;
 
 // The first bytes of `sealed` become the box of the message under the next nonce of the book of `name` and `count`.
-// The nonce goes to `nonce`, and the count goes up by one.
+// The nonce goes to `nonce`, and the count goes up by one. C passes each string by itself, so here they are in no struct.
 #[unsafe(no_mangle)]
 pub extern "C" fn gimli_seal(
     key: &[u8],
@@ -29,10 +30,7 @@ pub extern "C" fn gimli_seal(
 ) -> u8
     ensures { SealAnswered key.now name.now ad.now message.now count.old sealed.old nonce.old count.new sealed.new nonce.new result }
 {
-    match seal(key, name, count, ad, message, sealed, nonce) {
-        Ok(()) => 0,
-        Err(refusal) => refusal.number(),
-    }
+    answer_of(seal(key, name, count, ad, message, sealed, nonce))
 }
 
 // Nothing is written before the last fault is looked for.

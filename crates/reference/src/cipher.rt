@@ -2,7 +2,7 @@
 ghost use Rattle.std.specs.Prelude.{◌≡◌, ◌+◌, length, IfSome, IfOk, vec_len};
 
 use crate::permutation::{Words, permute};
-use crate::words::{BLOCK, absorb, byte_at, end_string, read_string, xor_string};
+use crate::words::{BLOCK, absorb, end_string, front, read_string, xor_string};
 use std::alloc::{AllocError, Global};
 
 // The state that the message begins with.
@@ -15,46 +15,38 @@ fn started(key: &[u8; 32], nonce: &[u8; 16], ad: &[u8]) -> Words {
     s
 }
 
-// The first bytes of the state.
-fn tag_of(s: &Words) -> [u8; BLOCK] {
-    let mut tag = [0; BLOCK];
-    read_string(s, &mut tag);
-    tag
-}
-
-// Turns a message into its ciphertext, and answers the tag.
-fn cipher_text(s: &mut Words, text: &mut [u8]) -> [u8; BLOCK] {
-    let n = text.len();
-    for block in text.chunks_mut(BLOCK) {
-        xor_string(s, 0, block);
-        read_string(s, block);
-        if block.len() == BLOCK {
-            permute(s);
-        }
-    }
-    end_string(s, n);
-    tag_of(s)
+// Turns a block of plain text into ciphertext, and takes that in.
+fn cipher_block(s: &mut Words, block: &mut [u8]) {
+    xor_string(s, 0, block);
+    read_string(s, block);
 }
 
 // Turns a block of ciphertext into plain text, and takes that in.
 fn decipher_block(s: &mut Words, block: &mut [u8]) {
-    for (i, b) in block.iter_mut().enumerate() {
-        *b ^= byte_at(s, i);
+    let stream: [u8; BLOCK] = front(s);
+    for (b, of_state) in block.iter_mut().zip(stream) {
+        *b ^= of_state;
     }
     xor_string(s, 0, block);
 }
 
-// Turns a ciphertext into its message, and answers the tag.
-fn decipher_text(s: &mut Words, text: &mut [u8]) -> [u8; BLOCK] {
+// Turns a text into the other by a step for each block, and answers the tag.
+fn turn_text<F: Fn(&mut Words, &mut [u8])>(
+    s: &mut Words,
+    text: &mut [u8],
+    turn_block: F,
+) -> [u8; BLOCK]
+    requires { F.IsAlwaysCallable turn_block }
+{
     let n = text.len();
     for block in text.chunks_mut(BLOCK) {
-        decipher_block(s, block);
+        turn_block(s, block);
         if block.len() == BLOCK {
             permute(s);
         }
     }
     end_string(s, n);
-    tag_of(s)
+    front(s)
 }
 
 // The box of a message: its ciphertext, then the tag.
@@ -69,7 +61,7 @@ pub fn seal(
 {
     let mut s = started(key, nonce, ad);
     let mut sealed = Vec::from_slice(heap, message)?;
-    let tag = cipher_text(&mut s, sealed.as_mut_slice());
+    let tag = turn_text(&mut s, &mut sealed, cipher_block);
     sealed.extend_from_slice(&tag)?;
     Ok(sealed)
 }
@@ -84,15 +76,11 @@ pub fn open(
 ) -> Result<Option<Vec<u8>>, AllocError>
     ensures { IfOk result (λ o. IfSome o (λ v. vec_len v + 16 ≡ length sealed.now)) }
 {
-    if sealed.len() < BLOCK {
+    let Some((text, tag)) = sealed.split_last_chunk::<BLOCK>() else {
         return Ok(None);
-    }
-    let (text, tag) = sealed.split_at(sealed.len() - BLOCK);
+    };
     let mut s = started(key, nonce, ad);
     let mut message = Vec::from_slice(heap, text)?;
-    if decipher_text(&mut s, message.as_mut_slice()).as_slice() == tag {
-        Ok(Some(message))
-    } else {
-        Ok(None)
-    }
+    let same = turn_text(&mut s, &mut message, decipher_block) == *tag;
+    Ok(same.then_some(message))
 }

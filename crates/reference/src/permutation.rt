@@ -1,15 +1,17 @@
 // The permutation on twelve words, row after row.
-ghost use Rattle.std.specs.Prelude.{◌≡◌, length, is_some, ◌==◌};
+ghost use Rattle.std.specs.Prelude.{◌≡◌, ◌<◌, length, is_some, ◌==◌};
 
-use crate::words::{WIDTH, string_of, xor_string};
+use crate::words::{WIDTH, front, xor_string};
 
+// A plain array: the tests write a state down word by word, and read it back so.
 pub type Words = [u32; 12];
 
 const ROUNDS: u32 = 24;
 
 // The SP-box on column j.
-fn mix_column(s: &mut Words, j: usize) {
-    let j = j % 4;
+fn mix_column(s: &mut Words, j: usize)
+    requires { j < 4 }
+{
     let x = s[j].rotate_left(24);
     let y = s[4 + j].rotate_left(9);
     let z = s[8 + j];
@@ -24,23 +26,17 @@ pub fn round(s: &mut Words, number: u32) {
         mix_column(s, j);
     }
     let [a, b, c, d, ..] = *s;
-    if number % 4 == 0 {
-        s[0] = b ^ 0x9e37_7900 ^ number;
-        s[1] = a;
-        s[2] = d;
-        s[3] = c;
-    }
-    if number % 4 == 2 {
-        s[0] = c;
-        s[1] = d;
-        s[2] = a;
-        s[3] = b;
-    }
+    let top = match number % 4 {
+        0 => [b ^ 0x9e37_7900 ^ number, a, d, c],
+        2 => [c, d, a, b],
+        _ => [a, b, c, d],
+    };
+    s[..4].copy_from_slice(&top);
 }
 
 pub fn permute(s: &mut Words) {
-    for done in 0..ROUNDS {
-        round(s, ROUNDS - done);
+    for number in (1..=ROUNDS).rev() {
+        round(s, number);
     }
 }
 
@@ -54,5 +50,5 @@ pub fn permuted(string: &[u8]) -> Option<[u8; WIDTH]>
     let mut s = [0; 12];
     xor_string(&mut s, 0, string);
     permute(&mut s);
-    Some(string_of(&s))
+    Some(front(&s))
 }
