@@ -1,7 +1,7 @@
 // The inspection office: opens the box on a plain engine, and refuses one with a single bit changed.
 use crate::bench::{HEADER, KEY, Sealed};
 use crate::show::Said;
-use anyhow::bail;
+use anyhow::anyhow;
 use cipher::book::NonceBook;
 use cipher::key::Key;
 use cipher::nonce::BoxNonce;
@@ -78,16 +78,11 @@ fn show_answer(rt: &HostRuntime, step: &Step<Vec<ForceWord>>) -> io::Result<()> 
 }
 
 fn open(rt: &HostRuntime, nonce: &[u8], sealed: Vec<u8>) -> anyhow::Result<()> {
-    let Ok(
-        Office {
-            key,
-            nonce,
-            mut book,
-        },
-    ) = set_up(nonce)
-    else {
-        bail!("the office cannot be set up");
-    };
+    let Office {
+        key,
+        nonce,
+        mut book,
+    } = set_up(nonce).map_err(|_| anyhow!("the office cannot be set up"))?;
     let mut script = open_calls(rt.alloc(), key, nonce, sealed)?;
     let Ended { engine: _, ran: _ } = run(&mut book, PlainEngine::new(), &mut script);
     if let Some(step) = script.last() {
