@@ -13,7 +13,7 @@ pub(crate) fn length(n: usize) -> usize {
     LENGTHS[n % LENGTHS.len()]
 }
 
-// The size of the pieces that strings are cut into.
+// The size of the pieces that strings are cut into. None of the table is 0.
 pub(crate) fn size(n: usize) -> NonZeroUsize {
     NonZeroUsize::new(SIZES[n % SIZES.len()]).unwrap_or(NonZeroUsize::MIN)
 }

@@ -69,7 +69,7 @@ fn buffers(tally: &mut Tally) {
     tally.count(is_cleared(&touched, 5));
 }
 
-// Counts each comparison with the first and with the last byte wrong.
+// Counts each comparison with the first and with the last byte wrong, strings in pieces of 7 bytes.
 pub(crate) fn count<E: Engine + Copy>(
     bench: &Bench<E>,
     tally: &mut Tally,

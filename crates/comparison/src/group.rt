@@ -16,6 +16,7 @@ use std::num::NonZeroUsize;
 
 const STATES: usize = 100;
 
+// An enum and no closure: each group runs on engines of three types.
 #[derive(Clone, Copy)]
 pub(crate) enum Group {
     Permutations,

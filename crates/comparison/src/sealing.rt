@@ -71,6 +71,7 @@ pub(crate) fn seals<E: Engine + Copy>(
     let Ok(mut closed) = closed_sealing(bench.engine, case, size) else {
         return Ok(false);
     };
+    // The sealing moves from piece to piece, so what each write answered is gathered beside it.
     let mut wrote = true;
     let pieces = case.message.chunks(size.get());
     for (piece, room) in pieces.zip(text.chunks_mut(size.get())) {

@@ -75,6 +75,7 @@ impl<E: Engine + Copy> Bench<'_, E> {
         let Ok(nonce) = issued_nonce() else {
             return Ok(false);
         };
+        // The sealing moves from piece to piece, so what each write answered is gathered beside it.
         let mut wrote = true;
         let mut closed = self.sealing_cut(nonce, v.ad.as_slice(), size);
         let pieces = message.chunks(size.get());
