@@ -1,5 +1,8 @@
 -- The string of a sharing: its bytes are the xors of the shares' bytes; a byte xored into share 0 is xored into it.
-use Rattle.std.proofs.Common.{◌≡◌, ℕ, zero, suc, ◌*◌, ◌/◌, ◌%◌, ◌^◌, ◌<◌, ◌≢◌, ◌⊎◌, List, [], ◌∷◌, length, get_or, set, Ok, Err, Result, sym, refl, ap, ◌∙◌, inl, inr, arith}
+use Rattle.std.proofs.Common.{◌≡◌, ℕ, zero, suc, ◌*◌, ◌/◌, ◌%◌, ◌^◌, ◌<◌, ◌≢◌, ◌⊎◌, List, [], ◌∷◌, length, get_or, set, Ok, Err, Result, sym, refl, ap, ◌∙◌, inl, inr, arith, lit<}
+use denote.Param.Members.{Mut}
+use Rattle.std.specs.Array.{IsMapOf}
+use Rattle.std.specs.Fn.{Called}
 use lib.Bits.{bit_xor, xor_lt, xor_assoc, xor_comm, xor_self}
 use Rattle.std.proofs.lemmas.List.{set-get_or, length-set, get_or-set_same, get_or-set_other}
 use Rattle.std.proofs.lemmas.Bool.{cases_eq}
@@ -26,6 +29,13 @@ zeroth_replaced (a ∷ b ∷ c ∷ d ∷ s) t e = absurd (omega arith)
 -- three shares are the list of them
 pub three_shares : (s : Sharing) → length s ≡ 3 → share s 0 ∷ share s 1 ∷ share s 2 ∷ [] ≡ s
 three_shares s long = sym (zeroth_replaced s (share s 0) long) ∙ set-get_or s 0 _
+
+-- each share changed by one function
+pub shares_mapped : {F : Type 0} (g : Mut F (State × Unit {0}) State) (f : F) (s t : Sharing) (change : State → State) → IsMapOf g f s t 3 → ((p q : F) (x y : State) → Called g p (x, tt) y q → y ≡ change x) → t ≡ change (share s 0) ∷ change (share s 1) ∷ change (share s 2) ∷ []
+shares_mapped g f s t change made says =
+    let none : State = record { top = []; middle = []; bottom = [] } in
+    let at : (h : ℕ) → h < 3 → share t h ≡ change (share s h) = λ h l. let k = made.at h none none l in says k.0 k.1 (share s h) (share t h) k.2 in
+    sym (three_shares t made.long) ∙ (λ i. at 0 (lit< tt) i ∷ at 1 (lit< tt) i ∷ at 2 (lit< tt) i ∷ [])
 
 -- ---- bytes
 

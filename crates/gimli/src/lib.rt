@@ -7,4 +7,5 @@ pub mod shares;
 pub mod sp_box;
 pub mod standing;
 pub mod state;
+pub mod state_engine;
 pub mod three_share;

@@ -12,64 +12,36 @@ pub const CONSTANT: u32 = 0x9e37_7900;
 pub(crate) fn columns(s: State) -> State
     ensures { result ≡ columns s }
 {
-    let State {
-        top,
-        middle,
-        bottom,
-    } = s;
-    let (x0, y0, z0) = sp_box((top[0], middle[0], bottom[0]));
-    let (x1, y1, z1) = sp_box((top[1], middle[1], bottom[1]));
-    let (x2, y2, z2) = sp_box((top[2], middle[2], bottom[2]));
-    let (x3, y3, z3) = sp_box((top[3], middle[3], bottom[3]));
-    State {
-        top: [x0, x1, x2, x3],
-        middle: [y0, y1, y2, y3],
-        bottom: [z0, z1, z2, z3],
-    }
+    State::from_columns(|j| sp_box(s.column(j)))
 }
 
 pub(crate) fn small_swap(s: State) -> State
     ensures { result ≡ small_swap s }
 {
-    let State {
-        top,
-        middle,
-        bottom,
-    } = s;
+    let [a, b, c, d] = s.top;
     State {
-        top: [top[1], top[0], top[3], top[2]],
-        middle,
-        bottom,
+        top: [b, a, d, c],
+        ..s
     }
 }
 
 pub(crate) fn big_swap(s: State) -> State
     ensures { result ≡ big_swap s }
 {
-    let State {
-        top,
-        middle,
-        bottom,
-    } = s;
+    let [a, b, c, d] = s.top;
     State {
-        top: [top[2], top[3], top[0], top[1]],
-        middle,
-        bottom,
+        top: [c, d, a, b],
+        ..s
     }
 }
 
 pub(crate) fn add_constant(s: State, number: u32) -> State
     ensures { result ≡ add_constant number s }
 {
-    let State {
-        top,
-        middle,
-        bottom,
-    } = s;
+    let [a, b, c, d] = s.top;
     State {
-        top: [top[0] ^ (CONSTANT ^ number), top[1], top[2], top[3]],
-        middle,
-        bottom,
+        top: [a ^ (CONSTANT ^ number), b, c, d],
+        ..s
     }
 }
 
@@ -90,8 +62,8 @@ pub fn first_rounds(s: State, n: u32) -> State
     ensures { result ≡ first_rounds (min n 24) s }
 {
     let mut s = s;
-    for done in 0..n.min(24) {
-        s = round(s, 24 - done);
+    for number in (1..25).rev().take(n as usize) {
+        s = round(s, number);
     }
     s
 }
@@ -110,8 +82,8 @@ pub fn permutation(s: State) -> State
     ensures { result ≡ permutation s }
 {
     let mut s = s;
-    for done in 0..6 {
-        s = four_rounds(s, 24 - 4 * done);
+    for number in [24, 20, 16, 12, 8, 4] {
+        s = four_rounds(s, number);
     }
     s
 }

@@ -1,7 +1,9 @@
 // Three shares of a state, permuted without being joined.
-ghost use Rattle.std.specs.Prelude.{◌≡◌};
+ghost use Rattle.std.specs.Prelude.{◌≡◌, [], ◌∷◌};
+ghost use Rattle.engine.specs.Strings.{zeros};
 ghost use Rattle.gimli.specs.Permutation.{permutation};
-ghost use Rattle.gimli.specs.Shares.{share_sp_box, share_columns, shared_columns, shared_small_swap, shared_big_swap, shared_constant, shared_permutation, WholeShares, joined};
+ghost use Rattle.gimli.specs.Shares.{share_sp_box, share_columns, shared_columns, shared_small_swap, shared_big_swap, shared_constant, shared_permutation, WholeShares, joined, xor_states};
+ghost use Rattle.gimli.specs.Strings.{string};
 
 use crate::rounds::{add_constant, big_swap, small_swap};
 use crate::sp_box::Column;
@@ -31,27 +33,7 @@ fn share_sp_box(a: Column, b: Column) -> Column
 fn share_columns(a: State, b: State) -> State
     ensures { result ≡ share_columns a b }
 {
-    let (x0, y0, z0) = share_sp_box(
-        (a.top[0], a.middle[0], a.bottom[0]),
-        (b.top[0], b.middle[0], b.bottom[0]),
-    );
-    let (x1, y1, z1) = share_sp_box(
-        (a.top[1], a.middle[1], a.bottom[1]),
-        (b.top[1], b.middle[1], b.bottom[1]),
-    );
-    let (x2, y2, z2) = share_sp_box(
-        (a.top[2], a.middle[2], a.bottom[2]),
-        (b.top[2], b.middle[2], b.bottom[2]),
-    );
-    let (x3, y3, z3) = share_sp_box(
-        (a.top[3], a.middle[3], a.bottom[3]),
-        (b.top[3], b.middle[3], b.bottom[3]),
-    );
-    State {
-        top: [x0, x1, x2, x3],
-        middle: [y0, y1, y2, y3],
-        bottom: [z0, z1, z2, z3],
-    }
+    State::from_columns(|j| share_sp_box(a.column(j), b.column(j)))
 }
 
 fn columns(s: Shares) -> Shares
@@ -70,18 +52,16 @@ fn columns(s: Shares) -> Shares
 fn small_swaps(s: Shares) -> Shares
     ensures { result.share ≡ shared_small_swap s.share }
 {
-    let [s0, s1, s2] = s.share;
     Shares {
-        share: [small_swap(s0), small_swap(s1), small_swap(s2)],
+        share: s.share.map(small_swap),
     }
 }
 
 fn big_swaps(s: Shares) -> Shares
     ensures { result.share ≡ shared_big_swap s.share }
 {
-    let [s0, s1, s2] = s.share;
     Shares {
-        share: [big_swap(s0), big_swap(s1), big_swap(s2)],
+        share: s.share.map(big_swap),
     }
 }
 
@@ -104,6 +84,16 @@ fn four_rounds(s: Shares, number: u32) -> Shares
 }
 
 impl Shares {
+    // Shares of the state of zeros: two masks, and their xor.
+    pub(crate) fn of_zeros(one: State, two: State) -> Shares
+        ensures shares { result.share ≡ xor_states one two ∷ one ∷ two ∷ [] }
+        ensures meaning { string (joined result.share) ≡ zeros }
+    {
+        Shares {
+            share: [one.xor(two), one, two],
+        }
+    }
+
     // The same shares. A caller learns what their type says of them.
     pub(crate) fn known(self) -> Shares
         ensures same { result ≡ self }
@@ -120,11 +110,10 @@ impl Shares {
         ensures each { result.share ≡ shared_permutation self.share }
         ensures joined { joined result.share ≡ permutation (joined self.share) }
     {
-        let s = four_rounds(self, 24);
-        let s = four_rounds(s, 20);
-        let s = four_rounds(s, 16);
-        let s = four_rounds(s, 12);
-        let s = four_rounds(s, 8);
-        four_rounds(s, 4)
+        let mut s = self;
+        for number in [24, 20, 16, 12, 8, 4] {
+            s = four_rounds(s, number);
+        }
+        s
     }
 }

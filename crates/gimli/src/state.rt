@@ -1,11 +1,12 @@
 // The state: three rows of four words.
-ghost use Rattle.std.specs.Prelude.{◌≡◌, ◌+◌, ◌*◌, ◌≤◌, length, bit_xor, slice_index};
+ghost use Rattle.std.specs.Prelude.{◌≡◌, ℕ, ◌+◌, ◌<◌, ◌≤◌, length};
 ghost use Rattle.engine.specs.Answers.{Read};
 ghost use Rattle.engine.specs.Strings.{zeros};
-ghost use Rattle.gimli.specs.Permutation.{Whole, row};
+ghost use Rattle.gimli.specs.Permutation.{Whole, Column as ColumnWords, column, from_columns};
 ghost use Rattle.gimli.specs.Shares.{xor_states};
 ghost use Rattle.gimli.specs.Strings.{string, word_at, FromBytes, StateXored};
 
+use crate::sp_box::Column;
 use engine::engine::WIDTH;
 use engine::refusal::Refusal;
 
@@ -17,6 +18,7 @@ pub struct State {
 }
 
 // The word that begins at a place of a string, its lowest byte first.
+// Byte by byte: four bytes taken from a slice as an array are an Option, and here there is no other case.
 fn word_at(string: &[u8], place: usize) -> u32
     requires { place + 4 ≤ length string.now }
     ensures { result ≡ word_at string.now place }
@@ -27,25 +29,6 @@ fn word_at(string: &[u8], place: usize) -> u32
         string[place + 2],
         string[place + 3],
     ])
-}
-
-// The four words that begin at a place of a string.
-fn row_at(string: &[u8], place: usize) -> [u32; 4]
-    requires { place + 16 ≤ length string.now }
-    ensures { result ≡ row (λ j. word_at string.now (place + 4 * j)) }
-{
-    [
-        word_at(string, place),
-        word_at(string, place + 4),
-        word_at(string, place + 8),
-        word_at(string, place + 12),
-    ]
-}
-
-fn xor_rows(a: [u32; 4], b: [u32; 4]) -> [u32; 4]
-    ensures { result ≡ row (λ j. bit_xor (slice_index a j) (slice_index b j)) }
-{
-    [a[0] ^ b[0], a[1] ^ b[1], a[2] ^ b[2], a[3] ^ b[3]]
 }
 
 impl State {
@@ -60,6 +43,30 @@ impl State {
         }
     }
 
+    // The state whose columns are the answers of f.
+    pub(crate) fn from_columns<F: Fn(usize) -> Column>(f: F) -> State
+        requires { (j : ℕ) → j < 4 → F.pre f j }
+        ensures { (c : ℕ → ColumnWords) → ((j : ℕ) (r : ColumnWords) → j < 4 → F.post f j r → r ≡ c j) → result ≡ from_columns c }
+    {
+        let (x0, y0, z0) = f(0);
+        let (x1, y1, z1) = f(1);
+        let (x2, y2, z2) = f(2);
+        let (x3, y3, z3) = f(3);
+        State {
+            top: [x0, x1, x2, x3],
+            middle: [y0, y1, y2, y3],
+            bottom: [z0, z1, z2, z3],
+        }
+    }
+
+    // The words of column j.
+    pub(crate) fn column(&self, j: usize) -> Column
+        requires { j < 4 }
+        ensures { result ≡ column self.now j }
+    {
+        (self.top[j], self.middle[j], self.bottom[j])
+    }
+
     // The state of a string of 48 bytes; none of another length.
     pub fn from_bytes(string: &[u8]) -> Option<State>
         ensures { FromBytes string.now result }
@@ -67,14 +74,16 @@ impl State {
         if string.len() != WIDTH {
             return None;
         }
-        Some(State {
-            top: row_at(string, 0),
-            middle: row_at(string, 16),
-            bottom: row_at(string, 32),
-        })
+        Some(State::from_columns(|j| {
+            (
+                word_at(string, 4 * j),
+                word_at(string, 16 + 4 * j),
+                word_at(string, 32 + 4 * j),
+            )
+        }))
     }
 
-    // The same state. A caller learns what its type says of it: four words of 32 bits to a row.
+    // The same state. A caller learns what its type says of it, which it does not of a state in an array.
     pub(crate) fn known(self) -> State
         ensures same { result ≡ self }
         ensures whole { Whole self }
@@ -86,11 +95,11 @@ impl State {
     pub fn xor(self, other: State) -> State
         ensures { result ≡ xor_states self other }
     {
-        State {
-            top: xor_rows(self.top, other.top),
-            middle: xor_rows(self.middle, other.middle),
-            bottom: xor_rows(self.bottom, other.bottom),
-        }
+        State::from_columns(|j| {
+            let (x, y, z) = self.column(j);
+            let (u, v, w) = other.column(j);
+            (x ^ u, y ^ v, z ^ w)
+        })
     }
 
     // The byte at a place of the state's string.
@@ -106,7 +115,7 @@ impl State {
             1 => self.middle[column],
             _ => self.bottom[column],
         };
-        Ok(((word >> (8 * (place % 4))) & 0xff) as u8)
+        Ok(word.to_le_bytes()[place % 4])
     }
 
     // Changes the byte at a place of the state's string by xor with b.
@@ -117,6 +126,7 @@ impl State {
             return Err(Refusal::PlaceOutsideState);
         }
         let column = place % 16 / 4;
+        // a shift is no longer than an array of four bytes with b in it
         let bits = u32::from(b) << (8 * (place % 4));
         match place / 16 {
             0 => self.top[column] ^= bits,

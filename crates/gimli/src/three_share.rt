@@ -22,16 +22,10 @@ impl ThreeShareEngine {
     pub fn new(first: &[u8], second: &[u8]) -> Result<ThreeShareEngine, Refusal>
         ensures { Made first.now second.now result }
     {
-        let Some(one) = State::from_bytes(first) else {
-            return Err(Refusal::MaskLength);
-        };
-        let Some(two) = State::from_bytes(second) else {
-            return Err(Refusal::MaskLength);
-        };
+        let one = State::from_bytes(first).ok_or(Refusal::MaskLength)?;
+        let two = State::from_bytes(second).ok_or(Refusal::MaskLength)?;
         Ok(ThreeShareEngine {
-            shares: Shares {
-                share: [one.xor(two), one, two],
-            },
+            shares: Shares::of_zeros(one, two),
         })
     }
 
@@ -39,7 +33,7 @@ impl ThreeShareEngine {
     pub fn shares(&self) -> Shares
         ensures { result ≡ self.now.shares }
     {
-        self.shares.known()
+        self.shares
     }
 }
 
@@ -49,9 +43,7 @@ fn cleared(shares: Shares) -> Shares
     ensures meaning { string (joined result.share) ≡ zeros }
 {
     let [_, one, two] = shares.share;
-    Shares {
-        share: [one.xor(two), one, two],
-    }
+    Shares::of_zeros(one, two)
 }
 
 // A byte xored into share 0, which is lent to be changed.

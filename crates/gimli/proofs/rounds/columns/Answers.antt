@@ -1,6 +1,7 @@
-use Rattle.gimli.specs.Permutation.{columns}
+use Rattle.std.proofs.Common.{rules}
+use Rattle.gimli.specs.Permutation.{column, sp_box, columns}
 use Rattle.gimli.proofs.rounds.columns.Goals as goal
 
 pub returns : goal.returns
 unfolding columns
-returns c = simp (c.sp_box-x0.ensures, c.sp_box-x1.ensures, c.sp_box-x2.ensures, c.sp_box-x3.ensures)
+returns c = c.from_columns.ensures (λ j. sp_box (column c.args.s j)) (λ j r h post. search rules)

@@ -1,6 +1,9 @@
+use Rattle.std.proofs.Common.{rules}
+use Rattle.gimli.specs.Permutation.{big_swap}
 use Rattle.gimli.specs.Shares.{shared_big_swap}
+use Rattle.gimli.proofs.SharedStrings.{shares_mapped}
 use Rattle.gimli.proofs.shares.big_swaps.Goals as goal
 
 pub returns : goal.returns
 unfolding shared_big_swap
-returns c = simp (c.big_swap.ensures, c.big_swap-2.ensures, c.big_swap-3.ensures)
+returns c = shares_mapped _ _ c.args.s.share c.map.result big_swap c.map.ensures.items (λ p q x y k. search rules)

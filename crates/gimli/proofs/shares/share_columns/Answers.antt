@@ -1,6 +1,8 @@
-use Rattle.gimli.specs.Shares.{share_columns}
+use Rattle.std.proofs.Common.{rules}
+use Rattle.gimli.specs.Permutation.{column}
+use Rattle.gimli.specs.Shares.{share_sp_box, share_columns}
 use Rattle.gimli.proofs.shares.share_columns.Goals as goal
 
 pub returns : goal.returns
 unfolding share_columns
-returns c = simp (c.share_sp_box-x0.ensures, c.share_sp_box-x1.ensures, c.share_sp_box-x2.ensures, c.share_sp_box-x3.ensures)
+returns c = c.from_columns.ensures (λ j. share_sp_box (column c.args.a j) (column c.args.b j)) (λ j r h post. search rules)

@@ -1,32 +1,36 @@
-use Rattle.std.proofs.Common.{◌≡◌, ◌-◌, length, sym, refl, ap, ◌∙◌, add-one, arith, lit<, rules}
+use Rattle.std.proofs.Common.{◌≡◌, ℕ, suc, ◌-◌, sym, refl, ap, ◌∙◌, arith, rules}
 use Rattle.gimli.specs.Permutation.{round, first_rounds, permutation}
-use Rattle.gimli.specs.Standing.{next_k, k_after}
+use Rattle.gimli.specs.Standing.{meant as meant_of, next_k, k_after}
 use Rattle.gimli.proofs.StandingRow.{at_rest}
 use Rattle.gimli.proofs.standing.standing_permutation.Goals as goal
 
-pub loop-done-init : goal.loop-done-init
+pub loop-number-init : goal.loop-number-init
 unfolding first_rounds
-loop-done-init c =
-    let long : length c.args.s.top ≡ 4 = search rules in
-    (at_rest record { stored = c.args.s; k = 0 } refl long, refl, lit< tt, long)
+loop-number-init c = (omega arith, omega arith, refl, c.new-standing.ensures.k, search rules)
 
-pub loop-done-preserved : goal.loop-done-preserved
+pub loop-number-preserved : goal.loop-number-preserved
 unfolding first_rounds
-loop-done-preserved c =
-    let number = 24 - c.loop-done.done in
-    let made = c.round-standing.ensures in (
-      rw (add-one c.loop-done.done) (made.meant ∙ ap (round number) c.loop-done.invariant.0),
-      rw (add-one c.loop-done.done) (made.k.0 ∙ ap (next_k number) c.loop-done.invariant.1),
-      made.k.1,
+loop-number-preserved c =
+    let n = c.loop-number.number in
+    let (above, within, meant, k, long) = c.loop-number.invariant in
+    let start = meant_of c.new-standing.result in
+    let made = c.round-standing.ensures in
+    let more : 25 - (n - 1) ≡ suc (25 - n) = omega arith in
+    let number : n - 1 ≡ 24 - (25 - n) = omega arith in (
+      omega arith,
+      omega arith,
+      rw more (made.meant ∙ ap (round (n - 1)) meant ∙ ap (λ (r : ℕ). round r (first_rounds (25 - n) start)) number),
+      rw more (made.k ∙ ap (next_k (n - 1)) k ∙ ap (λ (r : ℕ). next_k r (k_after (25 - n))) number),
       search rules,
     )
 
 pub returns : goal.returns
 unfolding permutation
 returns c =
-    let all : c.loop-done.done ≡ 24 = omega arith in
-    let rest : c.loop-done.standing.k ≡ 0 = c.loop-done.invariant.1 ∙ ap k_after all in
+    let (above, within, meant, k, long) = c.loop-number.invariant in
+    let all : 25 - c.loop-number.number ≡ 24 = omega arith in
+    let rest : c.loop-number.standing.k ≡ 0 = k ∙ ap k_after all in
     record {
-      value = sym (at_rest c.loop-done.standing rest c.loop-done.invariant.3) ∙ c.loop-done.invariant.0 ∙ ap (λ n. first_rounds n c.args.s) all;
+      value = sym (at_rest c.loop-number.standing rest long) ∙ meant ∙ ap (λ n. first_rounds n (meant_of c.new-standing.result)) all ∙ ap (first_rounds 24) c.new-standing.ensures.meant;
       k = rest;
     }

@@ -1,8 +1,10 @@
-use Rattle.std.proofs.Common.{◌≡◌, ◌<◌, length}
+use Rattle.std.proofs.Common.{◌≡◌, ◌-◌, ◌≤◌, length}
 use Rattle.gimli.specs.Permutation.{first_rounds}
 use Rattle.gimli.specs.Standing.{meant, k_after}
 use Rattle.gimli.proofs.standing.standing_permutation.Given as goal
 
-abbrev pub invariant-loop-done : goal.invariant-loop-done
-invariant-loop-done l =
-    (meant l.standing ≡ first_rounds l.done l.initial.standing.stored) × (l.standing.k ≡ k_after l.done) × (l.standing.k < 4) × (length l.standing.stored.top ≡ 4)
+-- the rounds down to this number are done
+abbrev pub invariant-loop-number : goal.invariant-loop-number
+invariant-loop-number l =
+    (1 ≤ l.number) × (l.number ≤ 25)
+    × (meant l.standing ≡ first_rounds (25 - l.number) (meant l.initial.standing)) × (l.standing.k ≡ k_after (25 - l.number)) × (length l.standing.stored.top ≡ 4)

@@ -3,8 +3,8 @@ use Rattle.gimli.specs.Permutation.{small_swap}
 use Rattle.gimli.specs.Standing.{meant}
 use Rattle.gimli.proofs.StandingRow.{small_swapped}
 use Rattle.gimli.specs.StringsLemmas.{same_state}
-use Rattle.gimli.proofs.standing.small_swap.Goals as goal
+use Rattle.gimli.proofs.standing.Standing.small_swap.Goals as goal
 
 pub returns : goal.returns
 unfolding meant small_swap
-returns c = record { meant = same_state (small_swapped c.args.s.k c.args.s.stored.top c.requires) refl refl; k = refl }
+returns c = record { meant = same_state (small_swapped c.args.self.k c.args.self.stored.top c.args.self.below) refl refl; k = refl }

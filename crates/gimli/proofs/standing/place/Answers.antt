@@ -1,6 +1,0 @@
-use Rattle.std.proofs.Common.{refl}
-use Rattle.gimli.proofs.StandingRow.{stays_below}
-use Rattle.gimli.proofs.standing.place.Goals as goal
-
-pub returns : goal.returns
-returns c = record { value = refl; within = stays_below c.args.j c.args.k c.requires.0 c.requires.1 }
