@@ -1,4 +1,4 @@
-// Whole messages sealed and whole boxes opened.
+// Whole messages sealed and whole boxes opened. The tests have key, nonce and associated data each by itself: a struct would be no plainer.
 ghost use Rattle.std.specs.Prelude.{◌≡◌, ◌+◌, length, IfSome, IfOk, vec_len};
 
 use crate::permutation::{Words, permute};
