@@ -77,7 +77,7 @@ impl Calls {
         }
     }
 
-    // A key that is too long is refused only if the number of the issue can be read.
+    // A key of another length is refused only if the number of the issue can be read.
     fn start_sealing(&self, key: &[u8], issue: &[u8]) -> Result<Call<Lists>, Fault> {
         let key = self.string(key)?;
         let issue = self.issue_step(making::number(issue)?);
@@ -87,7 +87,7 @@ impl Calls {
         })
     }
 
-    // A key that is too long is refused only if the nonce can be read.
+    // A key of another length is refused only if the nonce can be read.
     fn start_opening(&self, key: &[u8], nonce: &[u8]) -> Result<Call<Lists>, Fault> {
         let key = self.string(key)?;
         let nonce = self.string(nonce)?;
