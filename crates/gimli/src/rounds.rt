@@ -15,6 +15,7 @@ pub(crate) fn columns(s: State) -> State
     State::from_columns(|j| sp_box(s.column(j)))
 }
 
+// The two swaps stay two: with the order as a parameter a round would no longer name its rules.
 pub(crate) fn small_swap(s: State) -> State
     ensures { result ≡ small_swap s }
 {
@@ -68,7 +69,8 @@ pub fn first_rounds(s: State, n: u32) -> State
     s
 }
 
-// Four rounds from a multiple of 4 on, with no test in the middle.
+// Four rounds from a multiple of 4 on, with no test in the middle. Spelled out for a state, for three shares and, round
+// by round, for the standing rows: a trait of the four layers for the three would be longer than what it saves.
 fn four_rounds(s: State, number: u32) -> State
     ensures { result ≡ columns (big_swap (columns (columns (add_constant number (small_swap (columns s)))))) }
 {

@@ -76,6 +76,7 @@ impl Standing {
         Standing { stored, k }
     }
 
+    // Each swap is one bit of k; they stay two, by the names of the rules.
     fn small_swap(self) -> Standing
         ensures meant { meant result ≡ small_swap (meant self) }
         ensures k { result.k ≡ bit_xor self.k 1 }

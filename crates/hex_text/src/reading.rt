@@ -27,6 +27,7 @@ pub fn read_string(heap: Global, digits: &[u8]) -> Result<Option<Vec<u8>>, Alloc
     ensures { IfOk result (ReadsString hex digits.now) }
 {
     let mut string = vec![in heap; 0; digits.len() / 2]?;
+    // no `?` here: that there is no such string is an answer, and no error
     let Some(()) = fill_string(digits, &mut string) else {
         return Ok(None);
     };

@@ -76,6 +76,7 @@ pub fn open(
 ) -> Result<Option<Vec<u8>>, AllocError>
     ensures { IfOk result (λ o. IfSome o (λ v. vec_len v + 16 ≡ length sealed.now)) }
 {
+    // no `?` here: that there is no message is an answer, and no error
     let Some((text, tag)) = sealed.split_last_chunk::<BLOCK>() else {
         return Ok(None);
     };
