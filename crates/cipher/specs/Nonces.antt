@@ -1,5 +1,6 @@
 -- Nonces, and the books that issue them.
-use Rattle.std.specs.Prelude.{◌≡◌, ℕ, ◌+◌, ◌/◌, ◌%◌, ◌<◌, List, [], ◌∷◌, ◌++◌, length, Ok, Err, Result, ◌≢◌}
+use Rattle.std.specs.Prelude.{◌≡◌, ℕ, ◌+◌, ◌<◌, List, ◌++◌, length, Ok, Err, Result, ◌≢◌}
+use Rattle.std.specs.Int.{w32, to_le_bytes}
 use Rattle.engine.specs.Refusals.{number}
 use Rattle.engine.specs.declared.refusal.Refusal.{Refusal}
 use Rattle.cipher.specs.declared.book.IssuedNonce.{IssuedNonce}
@@ -22,7 +23,7 @@ box_nonce_bytes n = n.bytes
 
 -- a count as four bytes, lowest first
 abbrev pub count_bytes : ℕ → List ℕ
-count_bytes n = (n % 256) ∷ (n / 256 % 256) ∷ (n / 65536 % 256) ∷ (n / 16777216 % 256) ∷ []
+count_bytes n = to_le_bytes w32 n
 
 -- the nonce of a bench's name and a count
 abbrev pub nonce_of : List ℕ → ℕ → List ℕ

@@ -1,7 +1,6 @@
 // What a sealing and an opening share until close: an engine started under a key and a nonce, and associated data.
-ghost use Rattle.std.specs.Prelude.{◌≡◌, ℕ, ◌+◌, ◌≤◌, List, ◌++◌, length};
-ghost use Rattle.engine.specs.Strings.{width, zeros};
-ghost use Rattle.sponge.specs.Blocks.{mixed};
+ghost use Rattle.std.specs.Prelude.{◌≡◌, ◌++◌};
+ghost use Rattle.engine.specs.Strings.{zeros};
 ghost use Rattle.sponge.specs.Calls.{Absorbs, Pads};
 ghost use Rattle.sponge.specs.Steps.{at, standing};
 ghost use Rattle.cipher.specs.Boxes.{Boxes};
@@ -11,6 +10,7 @@ use crate::closed::Closed;
 use crate::key::Key;
 use crate::nonce::NONCE_LEN;
 use engine::engine::Engine;
+use engine::strings::xor_string;
 use sponge::sponge::Sponge;
 
 pub(crate) struct Adding<E> {
@@ -23,12 +23,10 @@ impl<E: Engine> Adding<E> {
         ensures state { standing E.meaning result.sponge ≡ at (E.rule (nonce.now ++ key_bytes key.now)) 0 }
         ensures boxes { Boxes E.rule (key_bytes key.now) nonce.now }
     {
-        let Sponge { mut engine, place } = Sponge::new(engine);
-        load(&mut engine, key, nonce);
-        engine.permute();
-        Adding {
-            sponge: Sponge { engine, place },
-        }
+        let mut sponge = Sponge::new(engine);
+        load(&mut sponge.engine, key, nonce);
+        sponge.engine.permute();
+        Adding { sponge }
     }
 
     // Takes in the next piece of associated data.
@@ -66,16 +64,6 @@ fn load<E: Engine>(engine: &mut E, key: &Key, nonce: &[u8; NONCE_LEN])
     ensures state { E.meaning engine.new ≡ nonce.now ++ key_bytes key.now }
     ensures boxes { Boxes E.rule (key_bytes key.now) nonce.now }
 {
-    load_from(engine, 0, nonce);
-    load_from(engine, NONCE_LEN, key.bytes());
-}
-
-// Changes the bytes from a place on by xor with a string's.
-fn load_from<E: Engine>(engine: &mut E, place: usize, string: &[u8])
-    requires { place + length string.now ≤ width }
-    ensures { (s front : List ℕ) → length front ≡ place → E.meaning engine.old ≡ mixed s front → E.meaning engine.new ≡ mixed s (front ++ string.now) }
-{
-    for (i, b) in string.iter().enumerate() {
-        let _ = engine.xor_byte(place + i, *b);
-    }
+    xor_string(engine, 0, nonce);
+    xor_string(engine, NONCE_LEN, key.bytes());
 }

@@ -35,10 +35,8 @@ impl NonceBook {
     pub fn new(name: &[u8], count: u32) -> Result<NonceBook, Refusal>
         ensures { BookMade name.now count result }
     {
-        match <[u8; NAME_LEN]>::try_from(name) {
-            Ok(name) => Ok(NonceBook { name, count }),
-            Err(_) => Err(Refusal::NameLength),
-        }
+        let name = <[u8; NAME_LEN]>::try_from(name).map_err(|_| Refusal::NameLength)?;
+        Ok(NonceBook { name, count })
     }
 
     // The next nonce; at the last count the book is used up, and refuses.
@@ -46,11 +44,9 @@ impl NonceBook {
         ensures { Issued self.old result self.new }
     {
         let NonceBook { name, count } = self;
-        if *count == u32::MAX {
-            return Err(Refusal::BookUsedUp);
-        }
+        let next = count.checked_add(1).ok_or(Refusal::BookUsedUp)?;
         let bytes = nonce_bytes(name, *count);
-        *count += 1;
+        *count = next;
         Ok(IssuedNonce { bytes })
     }
 
@@ -75,7 +71,7 @@ fn nonce_bytes(name: &[u8; NAME_LEN], count: u32) -> [u8; NONCE_LEN]
     ensures sole { (k : ℕ) → k < last_count → result ≡ nonce_of name.now k → k ≡ count }
 {
     let mut bytes = [0; NONCE_LEN];
-    bytes[0..NAME_LEN].copy_from_slice(name);
-    bytes[NAME_LEN..NONCE_LEN].copy_from_slice(&count.to_le_bytes());
+    bytes[..NAME_LEN].copy_from_slice(name);
+    bytes[NAME_LEN..].copy_from_slice(&count.to_le_bytes());
     bytes
 }

@@ -18,10 +18,8 @@ impl Key {
     pub fn new(string: &[u8]) -> Result<Key, Refusal>
         ensures { KeyMade string.now result }
     {
-        match <[u8; KEY_LEN]>::try_from(string) {
-            Ok(bytes) => Ok(Key { bytes }),
-            Err(_) => Err(Refusal::KeyLength),
-        }
+        let bytes = <[u8; KEY_LEN]>::try_from(string).map_err(|_| Refusal::KeyLength)?;
+        Ok(Key { bytes })
     }
 
     // The key's string.

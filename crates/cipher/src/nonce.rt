@@ -17,10 +17,8 @@ impl BoxNonce {
     pub fn new(string: &[u8]) -> Result<BoxNonce, Refusal>
         ensures { BoxNonceMade string.now result }
     {
-        match <[u8; NONCE_LEN]>::try_from(string) {
-            Ok(bytes) => Ok(BoxNonce { bytes }),
-            Err(_) => Err(Refusal::NonceLength),
-        }
+        let bytes = <[u8; NONCE_LEN]>::try_from(string).map_err(|_| Refusal::NonceLength)?;
+        Ok(BoxNonce { bytes })
     }
 
     // The nonce's string.

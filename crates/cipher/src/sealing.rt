@@ -15,7 +15,7 @@ use crate::closed::Closed;
 use crate::key::Key;
 use engine::engine::Engine;
 use engine::refusal::Refusal;
-use sponge::block::RATE;
+use sponge::sponge::RATE;
 
 // The number of bytes in a tag.
 pub const TAG_LEN: usize = RATE;

@@ -1,6 +1,6 @@
 use Rattle.std.proofs.Common.{◌≡◌, ℕ, List, [], ◌∷◌, ◌++◌, length, drop, sym, ap, ◌∙◌, arith}
 use borrow.Rule.Slice.PartMut.{put_mid, post_of}
-use Rattle.std.proofs.lemmas.List.{append-nil, length-append, take_at, drop_at}
+use Rattle.std.proofs.lemmas.List.{append-nil, take_at, drop_at}
 use Rattle.cipher.specs.Nonces.{nonce_of}
 use Rattle.cipher.proofs.Counts.{nonces_apart}
 use Rattle.cipher.proofs.book.nonce_bytes.Goals as goal
@@ -11,11 +11,6 @@ joined x y e =
     ap (λ (t : List ℕ). t ++ (y ++ post_of 12 4 (x ++ z))) (take_at x z 12 e)
     ∙ ap (λ (t : List ℕ). x ++ (y ++ drop 4 t)) (drop_at x z 12 e)
     ∙ ap (λ (t : List ℕ). x ++ t) (append-nil y)
-
-pub slice_bounds-bytes-end-2 : goal.slice_bounds-bytes-end-2
-slice_bounds-bytes-end-2 c =
-    let long = length-append c.copy_from_slice.new.self (0 ∷ 0 ∷ 0 ∷ 0 ∷ []) in
-    omega (arith, c.copy_from_slice.ensures.len)
 
 pub returns : goal.returns
 returns c =

@@ -5,8 +5,8 @@ use Rattle.sponge.specs.Steps.{State, at, standing, padded}
 use Rattle.cipher.proofs.Tags.{first_block, tags}
 use Rattle.cipher.proofs.closed.Closed.finish.Goals as goal
 
-pub returns : goal.returns
-returns g c =
+pub returns-clause-tag : goal.returns-clause-tag
+returns-clause-tag g c =
     let e = g.E.Engine in
     let p = standing e.meaning c.args.self.sponge in
     let s = (padded e.rule p).string in
@@ -14,7 +14,4 @@ returns g c =
     let ended : standing e.meaning c.pad.result ≡ at s 0 = c.pad.ensures.bytewise in
     let whole : Whole s = subst Whole (ap (λ (q : State). q.string) ended) (g.met.E.Engine.whole c.pad.result.engine) in
     let long : length out ≡ rate = omega arith in
-    record {
-      tag = tags e.rule p out (first_block e.rule s out whole long (c.squeeze.ensures.first s whole ended));
-      cleared = c.into_engine.ensures;
-    }
+    tags e.rule p out (first_block e.rule s out whole long (c.squeeze.ensures.first s whole ended))

@@ -20,19 +20,14 @@ loop-item-preserved g c =
     next_item g.E.Engine.rule g.I.Item.bytes c.args.items.now c.loop-item.item-index _ _ _ c.loop-item-test.true c.item-item.is c.feed_item.ensures
     ∙ c.loop-item.invariant
 
-pub returns : goal.returns
-returns g c =
+pub returns-clause-fed : goal.returns-clause-fed
+returns-clause-fed g c m fed =
     let e = g.E.Engine in
     let bytes = g.I.Item.bytes in
     let items = c.args.items.now in
     let here = standing e.meaning c.loop-item.self.sponge in
-    let fed =
-    absorbs e.rule _ _ _ (
-    sym (at_drop_all (λ (xs : List g.row.I.Denot). absorb_piece e.rule here (flat_map bytes xs)) items c.loop-item.item-index c.loop-item-test.false)
-    ∙ c.loop-item.invariant
-    ) in
-    record {
-      state = fed.bytewise;
-      fed = λ m h. fed.piecewise _ m h;
-      told = told bytes g.met.I.Item.nonempty g.met.I.Item.prefix_free items;
-    }
+    let none = at_drop_all (λ (xs : List g.row.I.Denot). absorb_piece e.rule here (flat_map bytes xs)) items c.loop-item.item-index c.loop-item-test.false in
+    (absorbs e.rule _ _ _ (sym none ∙ c.loop-item.invariant)).piecewise _ m fed
+
+pub returns-clause-told : goal.returns-clause-told
+returns-clause-told g c = told g.I.Item.bytes g.met.I.Item.nonempty g.met.I.Item.prefix_free c.args.items.now

@@ -1,0 +1,14 @@
+use Rattle.std.proofs.Common.{◌≡◌, take, drop}
+use Rattle.sponge.specs.Steps.{standing, absorb_piece}
+use Rattle.cipher.specs.Ciphering.{cipher_piece}
+use Rattle.cipher.proofs.closed.Closed.decipher.Given as goal
+
+-- what is deciphered has the front of the text for its ciphertext, and is taken in
+abbrev pub invariant-loop-b : goal.invariant-loop-b
+invariant-loop-b g l =
+    let e = g.E.Engine in
+    let start = standing e.meaning l.initial.self.sponge in
+    let done = take l.b-index l.front in
+    (take l.b-index l.text ≡ cipher_piece e.rule start done)
+    × (drop l.b-index l.front ≡ drop l.b-index l.text)
+    × (standing e.meaning l.self.sponge ≡ absorb_piece e.rule start done)
