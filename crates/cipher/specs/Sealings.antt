@@ -5,13 +5,14 @@ use Rattle.engine.specs.declared.refusal.Refusal.{Refusal}
 use Rattle.sponge.specs.Blocks.{sealed_box}
 use Rattle.sponge.specs.Steps.{standing}
 use Rattle.cipher.specs.Ciphering.{Ciphers}
-use Rattle.cipher.specs.declared.sealing.ClosedSealing.{ClosedSealing}
+use Rattle.cipher.specs.declared.closed.Closed.{Closed}
+use Rattle.cipher.specs.declared.uses.ToSeal.{ToSeal}
 
 -- write, from the sealing c to c': a piece ciphered into a buffer, and its length;
 -- a buffer that is shorter than the piece is refused with 7, and is as it was, and so is the sealing
-abbrev pub Wrote : {E : Type 0} → (E → List ℕ) → (List ℕ → List ℕ) → ClosedSealing E → List ℕ → List ℕ → ClosedSealing E → Result ℕ Refusal → List ℕ → Type 0
+abbrev pub Wrote : {E : Type 0} → (E → List ℕ) → (List ℕ → List ℕ) → Closed E ToSeal → List ℕ → List ℕ → Closed E ToSeal → Result ℕ Refusal → List ℕ → Type 0
 Wrote meaning rule c piece before c' (Ok n) after =
-    (n ≡ length piece) × (length piece ≤ length before) × Ciphers rule (standing meaning c.closed.sponge) piece before after (standing meaning c'.closed.sponge)
+    (n ≡ length piece) × (length piece ≤ length before) × Ciphers rule (standing meaning c.sponge) piece before after (standing meaning c'.sponge)
 Wrote meaning rule c piece before c' (Err e) after = (length before < length piece) × (number e ≡ 7) × (after ≡ before) × (c' ≡ c)
 
 -- a message sealed in one piece: a buffer and the place of the tag, before and after

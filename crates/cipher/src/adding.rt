@@ -1,4 +1,4 @@
-// What a sealing and an opening share until close: an engine started under a key and a nonce, and associated data.
+// A sealing or an opening until close: an engine started under a key and a nonce, and associated data.
 ghost use Rattle.std.specs.Prelude.{◌≡◌, ◌++◌};
 ghost use Rattle.engine.specs.Strings.{zeros};
 ghost use Rattle.sponge.specs.Calls.{Absorbs, Pads};
@@ -12,48 +12,56 @@ use crate::nonce::NONCE_LEN;
 use engine::engine::Engine;
 use engine::strings::xor_string;
 use sponge::sponge::Sponge;
+use std::marker::PhantomData;
 
-pub(crate) struct Adding<E> {
+pub struct Adding<E, U> {
     sponge: Sponge<E>,
+    // to seal, or to open
+    of: PhantomData<U>,
 }
 
-impl<E: Engine> Adding<E> {
+impl<E: Engine, U> Adding<E, U> {
     // Loads a cleared engine with the nonce, then the key, and permutes it.
-    pub(crate) fn start(engine: E, key: &Key, nonce: &[u8; NONCE_LEN]) -> Adding<E>
+    pub(crate) fn begin(engine: E, key: &Key, nonce: &[u8; NONCE_LEN]) -> Adding<E, U>
         ensures state { standing E.meaning result.sponge ≡ at (E.rule (nonce.now ++ key_bytes key.now)) 0 }
         ensures boxes { Boxes E.rule (key_bytes key.now) nonce.now }
     {
         let mut sponge = Sponge::new(engine);
         load(&mut sponge.engine, key, nonce);
         sponge.engine.permute();
-        Adding { sponge }
+        Adding {
+            sponge,
+            of: PhantomData,
+        }
     }
 
-    // Takes in the next piece of associated data.
-    pub(crate) fn add(self, piece: &[u8]) -> Adding<E>
+    // Adds the next piece of associated data.
+    pub fn add(self, piece: &[u8]) -> Adding<E, U>
         ensures { Absorbs E.rule (standing E.meaning self.sponge) piece.now (standing E.meaning result.sponge) }
     {
-        let Adding { sponge } = self;
+        let Adding { sponge, of } = self;
         Adding {
             sponge: sponge.absorb(piece),
+            of,
         }
     }
 
     // Ends the associated data.
-    pub(crate) fn close(self) -> Closed<E>
+    pub fn close(self) -> Closed<E, U>
         ensures { Pads E.rule (standing E.meaning self.sponge) (standing E.meaning result.sponge) }
     {
-        let Adding { sponge } = self;
+        let Adding { sponge, of } = self;
         Closed {
             sponge: sponge.pad(),
+            of,
         }
     }
 
-    // The engine, cleared.
-    pub(crate) fn release(self) -> E
+    // Gives the box up. The engine comes back cleared.
+    pub fn release(self) -> E
         ensures { E.meaning result ≡ zeros }
     {
-        let Adding { sponge } = self;
+        let Adding { sponge, of: _ } = self;
         sponge.into_engine()
     }
 }

@@ -1,4 +1,4 @@
-// What a sealing and an opening share after close: a message's bytes, one after another, and the tag.
+// A sealing or an opening after close: a message's bytes, one after another, and the tag.
 ghost use Rattle.std.specs.Prelude.{◌≡◌, ◌≤◌, length};
 ghost use Rattle.engine.specs.Strings.{zeros};
 ghost use Rattle.sponge.specs.Steps.{standing, absorb_byte};
@@ -7,14 +7,17 @@ ghost use Rattle.cipher.specs.Ciphering.{keyed, Ciphers, Deciphers, Tags};
 use crate::sealing::TAG_LEN;
 use engine::engine::Engine;
 use sponge::sponge::Sponge;
+use std::marker::PhantomData;
 
-pub(crate) struct Closed<E> {
+pub struct Closed<E, U> {
     pub(crate) sponge: Sponge<E>,
+    // to seal, or to open
+    pub(crate) of: PhantomData<U>,
 }
 
-impl<E: Engine> Closed<E> {
+impl<E: Engine, U> Closed<E, U> {
     // Ciphers a piece into the first bytes of a buffer.
-    pub(crate) fn cipher(mut self, piece: &[u8], buffer: &mut [u8]) -> Closed<E>
+    pub(crate) fn cipher(mut self, piece: &[u8], buffer: &mut [u8]) -> Closed<E, U>
         requires { length piece.now ≤ length buffer.old }
         ensures { Ciphers E.rule (standing E.meaning self.sponge) piece.now buffer.old buffer.new (standing E.meaning result.sponge) }
     {
@@ -27,7 +30,7 @@ impl<E: Engine> Closed<E> {
     }
 
     // Deciphers a text into the first bytes of a buffer.
-    pub(crate) fn decipher(mut self, text: &[u8], buffer: &mut [u8]) -> Closed<E>
+    pub(crate) fn decipher(mut self, text: &[u8], buffer: &mut [u8]) -> Closed<E, U>
         requires { length text.now ≤ length buffer.old }
         ensures { Deciphers E.rule (standing E.meaning self.sponge) text.now buffer.old buffer.new (standing E.meaning result.sponge) }
     {
@@ -40,19 +43,19 @@ impl<E: Engine> Closed<E> {
     }
 
     // Ends the message. The engine comes back cleared.
-    pub(crate) fn finish(self, tag: &mut [u8; TAG_LEN]) -> E
+    pub(crate) fn end(self, tag: &mut [u8; TAG_LEN]) -> E
         ensures tag { Tags E.rule (standing E.meaning self.sponge) tag.new }
         ensures cleared { E.meaning result ≡ zeros }
     {
-        let Closed { sponge } = self;
+        let Closed { sponge, of: _ } = self;
         sponge.pad().squeeze(tag).into_engine()
     }
 
-    // The engine, cleared.
-    pub(crate) fn release(self) -> E
+    // Gives the box up. The engine comes back cleared.
+    pub fn release(self) -> E
         ensures { E.meaning result ≡ zeros }
     {
-        let Closed { sponge } = self;
+        let Closed { sponge, of: _ } = self;
         sponge.into_engine()
     }
 

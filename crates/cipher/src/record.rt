@@ -73,7 +73,7 @@ fn closed_sealing<E: Engine>(
     nonce: IssuedNonce,
     ad: &[u8],
 ) -> ClosedSealing<E>
-    ensures { standing E.meaning result.closed.sponge ≡ at (absorbed E.rule (E.rule (issued_bytes nonce ++ key_bytes key.now)) ad.now) 0 }
+    ensures { standing E.meaning result.sponge ≡ at (absorbed E.rule (E.rule (issued_bytes nonce ++ key_bytes key.now)) ad.now) 0 }
 {
     Sealing::start(engine, key, nonce).add(ad).close()
 }

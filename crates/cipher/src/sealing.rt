@@ -1,7 +1,6 @@
 // A sealing: associated data until close, then the message, and the tag at its end.
 ghost use Rattle.std.specs.Prelude.{◌≡◌, ◌++◌};
 ghost use Rattle.engine.specs.Strings.{zeros};
-ghost use Rattle.sponge.specs.Calls.{Absorbs, Pads};
 ghost use Rattle.sponge.specs.Steps.{at, standing};
 ghost use Rattle.cipher.specs.Boxes.{Boxes};
 ghost use Rattle.cipher.specs.Ciphering.{Tags};
@@ -13,6 +12,7 @@ use crate::adding::Adding;
 use crate::book::IssuedNonce;
 use crate::closed::Closed;
 use crate::key::Key;
+use crate::uses::ToSeal;
 use engine::engine::Engine;
 use engine::refusal::Refusal;
 use sponge::sponge::RATE;
@@ -20,55 +20,21 @@ use sponge::sponge::RATE;
 // The number of bytes in a tag.
 pub const TAG_LEN: usize = RATE;
 
-pub struct Sealing<E> {
-    adding: Adding<E>,
-}
+pub type Sealing<E> = Adding<E, ToSeal>;
 
-impl<E: Engine> Sealing<E> {
+pub type ClosedSealing<E> = Closed<E, ToSeal>;
+
+impl<E: Engine> Adding<E, ToSeal> {
     // Starts a sealing, whatever the engine meant. The nonce is spent.
     pub fn start(engine: E, key: &Key, nonce: IssuedNonce) -> Sealing<E>
-        ensures state { standing E.meaning result.adding.sponge ≡ at (E.rule (issued_bytes nonce ++ key_bytes key.now)) 0 }
+        ensures state { standing E.meaning result.sponge ≡ at (E.rule (issued_bytes nonce ++ key_bytes key.now)) 0 }
         ensures boxes { Boxes E.rule (key_bytes key.now) (issued_bytes nonce) }
     {
-        Sealing {
-            adding: Adding::start(engine, key, nonce.bytes()),
-        }
-    }
-
-    // Adds the next piece of associated data.
-    pub fn add(self, piece: &[u8]) -> Sealing<E>
-        ensures { Absorbs E.rule (standing E.meaning self.adding.sponge) piece.now (standing E.meaning result.adding.sponge) }
-    {
-        let Sealing { adding } = self;
-        Sealing {
-            adding: adding.add(piece),
-        }
-    }
-
-    // Ends the associated data.
-    pub fn close(self) -> ClosedSealing<E>
-        ensures { Pads E.rule (standing E.meaning self.adding.sponge) (standing E.meaning result.closed.sponge) }
-    {
-        let Sealing { adding } = self;
-        ClosedSealing {
-            closed: adding.close(),
-        }
-    }
-
-    // Gives the sealing up. The engine comes back cleared.
-    pub fn release(self) -> E
-        ensures { E.meaning result ≡ zeros }
-    {
-        let Sealing { adding } = self;
-        adding.release()
+        Adding::begin(engine, key, nonce.bytes())
     }
 }
 
-pub struct ClosedSealing<E> {
-    closed: Closed<E>,
-}
-
-impl<E: Engine> ClosedSealing<E> {
+impl<E: Engine> Closed<E, ToSeal> {
     // Writes the ciphertext of the message's next piece into the first bytes of a buffer, and answers the piece's length.
     // A buffer that is shorter than the piece is refused.
     pub fn write(
@@ -81,25 +47,14 @@ impl<E: Engine> ClosedSealing<E> {
         if buffer.len() < piece.len() {
             return (self, Err(Refusal::BufferTooShort));
         }
-        let ClosedSealing { closed } = self;
-        let closed = closed.cipher(piece, buffer);
-        (ClosedSealing { closed }, Ok(piece.len()))
+        (self.cipher(piece, buffer), Ok(piece.len()))
     }
 
     // Ends the message with its tag. The engine comes back cleared.
     pub fn finish(self, tag: &mut [u8; TAG_LEN]) -> E
-        ensures tag { Tags E.rule (standing E.meaning self.closed.sponge) tag.new }
+        ensures tag { Tags E.rule (standing E.meaning self.sponge) tag.new }
         ensures cleared { E.meaning result ≡ zeros }
     {
-        let ClosedSealing { closed } = self;
-        closed.finish(tag)
-    }
-
-    // Gives the sealing up. The engine comes back cleared.
-    pub fn release(self) -> E
-        ensures { E.meaning result ≡ zeros }
-    {
-        let ClosedSealing { closed } = self;
-        closed.release()
+        self.end(tag)
     }
 }

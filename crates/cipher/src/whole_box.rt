@@ -6,12 +6,13 @@ ghost use Rattle.cipher.specs.Openings.{Opens};
 
 use crate::closed::Closed;
 use crate::sealing::TAG_LEN;
+use crate::uses::ToOpen;
 use engine::engine::Engine;
 use engine::refusal::Refusal;
 
 // Opens a box into the first bytes of a buffer, and answers the message's length. The engine comes back cleared.
 pub(crate) fn open_box<E: Engine>(
-    closed: Closed<E>,
+    closed: Closed<E, ToOpen>,
     sealed: &[u8],
     buffer: &mut [u8],
 ) -> (E, Result<usize, Refusal>)
@@ -25,7 +26,7 @@ pub(crate) fn open_box<E: Engine>(
         return (closed.release(), Err(Refusal::BufferTooShort));
     }
     let mut tag = [0; TAG_LEN];
-    let engine = closed.decipher(text, buffer).finish(&mut tag);
+    let engine = closed.decipher(text, buffer).end(&mut tag);
     if !equal(&tag, sealed_tag) {
         buffer[..text.len()].fill(0);
         return (engine, Err(Refusal::TagDiffers));

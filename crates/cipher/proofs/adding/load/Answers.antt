@@ -21,8 +21,8 @@ xored_from-zeros front [] n k e =
     ap (λ (j : ℕ). front ++ replicate j 0) same ∙ ap (λ (x : List ℕ). x ++ replicate n 0) (sym (append-nil front))
 xored_from-zeros front (b ∷ m) n k e =
     let one : k ≡ suc (length m + n) = omega arith in
-    let rest = replicate (length m + n) 0 in
     let next : suc (length front) ≡ length (front ++ b ∷ []) = omega (arith, length_push front b) in
+    let rest = replicate (length m + n) 0 in
     ap (λ (j : ℕ). xored_from (front ++ replicate j 0) (length front) (b ∷ m)) one
     ∙ ap (λ (s : List ℕ). xored_from s (suc (length front)) m) (xored-zero front rest b)
     ∙ ap (λ (place : ℕ). xored_from ((front ++ b ∷ []) ++ rest) place m) next

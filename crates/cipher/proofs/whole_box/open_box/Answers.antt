@@ -34,7 +34,7 @@ returns-then-not-equal-clause-opens g c =
     let n = length sealed - rate in
     let bytes : Bytes sealed = λ i. omega (arith, c.type_inv.sealed i) in
     let short : length end ≡ rate = ap length back ∙ length-drop n sealed ∙ omega arith in
-    let other : c.finish-engine.new.tag ≢ end = λ e. cc (c.if-not-equal.ensures.1 e) in
+    let other : c.end-engine.new.tag ≢ end = λ e. cc (c.if-not-equal.ensures.1 e) in
     let fits : length text ≡ n = omega arith in
     let room : length text ≤ length after = omega arith in
     let zeros : c.fill.new.self ≡ replicate n 0 = c.fill.ensures.after (λ y e. e) ∙ ap (λ (k : ℕ). replicate k 0) (length-take-le (length text) after room ∙ fits) in
@@ -43,7 +43,7 @@ returns-then-not-equal-clause-opens g c =
       number_is = refl;
       long = omega arith;
       room = omega arith;
-      none = no_box g.E.Engine.rule met.keeps s w sealed bytes _ _ text end before after _ start (joined sealed text end n front back) c.decipher.ensures c.finish-engine.ensures.tag short other;
+      none = no_box g.E.Engine.rule met.keeps s w sealed bytes _ _ text end before after _ start (joined sealed text end n front back) c.decipher.ensures c.end-engine.ensures.tag short other;
       buffer = ap (λ (x : List ℕ). x ++ drop (length text) after) zeros ∙ ap (λ (x : List ℕ). replicate n 0 ++ x) c.decipher.ensures.rest ∙ ap (λ (k : ℕ). replicate n 0 ++ drop k before) fits;
     })))
 
@@ -65,7 +65,7 @@ returns-clause-opens g c =
     (λ s w start. (
       m,
       record {
-        box = is_box g.E.Engine.rule met.keeps s w sealed bytes _ _ text end before after _ start (joined sealed text end (length sealed - rate) front back) c.decipher.ensures c.finish-engine.ensures.tag whole (c.if-not-equal.ensures.0 refl);
+        box = is_box g.E.Engine.rule met.keeps s w sealed bytes _ _ text end before after _ start (joined sealed text end (length sealed - rate) front back) c.decipher.ensures c.end-engine.ensures.tag whole (c.if-not-equal.ensures.0 refl);
         answer = sym as_long;
         room = omega arith;
         buffer = sym (take-append-drop (length text) after) ∙ ap (λ (x : List ℕ). m ++ x) c.decipher.ensures.rest ∙ ap (λ (k : ℕ). m ++ drop k before) (sym as_long);

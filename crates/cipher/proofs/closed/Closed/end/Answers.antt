@@ -3,7 +3,7 @@ use Rattle.engine.specs.Strings.{Whole}
 use Rattle.sponge.specs.Blocks.{rate}
 use Rattle.sponge.specs.Steps.{State, at, standing, padded}
 use Rattle.cipher.proofs.Tags.{first_block, tags}
-use Rattle.cipher.proofs.closed.Closed.finish.Goals as goal
+use Rattle.cipher.proofs.closed.Closed.end.Goals as goal
 
 pub returns-clause-tag : goal.returns-clause-tag
 returns-clause-tag g c =
