@@ -10,7 +10,8 @@ use Rattle.cipher.proofs.Ciphertexts.{length_cipher_piece}
 use Rattle.cipher.specs.Ciphering.{cipher_piece, Tags}
 use Rattle.cipher.specs.Openings.{Opens, TooShort, NoRoom, NoMessage}
 use Rattle.cipher.specs.Sealings.{Wrote}
-use Rattle.cipher.specs.declared.sealing.ClosedSealing.{ClosedSealing}
+use Rattle.cipher.specs.declared.closed.Closed.{Closed}
+use Rattle.cipher.specs.declared.uses.ToSeal.{ToSeal}
 use Rattle.runs.proofs.Lawful.{grown-nothing}
 use Rattle.runs.specs.History.{done, refused, closed, written, opened, finished}
 use Rattle.runs.specs.Laws.{Refuses}
@@ -32,7 +33,7 @@ module _ {E : Type 0} (meaning : E → List ℕ) (rule : List ℕ → List ℕ) 
   after_close M p q a closes = subst (λ (N : Model). Writes meaning rule N q) (sym (grown-nothing M)) (close_holds M p q a closes)
 
   -- a write, done or refused
-  pub after_write : (M : Model) (s t : ClosedSealing E) (piece before after : List ℕ) (r : Result ℕ Refusal) → Writes meaning rule M (standing meaning s.closed.sponge) → Wrote meaning rule s piece before t r after → Writes meaning rule (next M (written piece before after (answer_in (reply_to r)))) (standing meaning t.closed.sponge)
+  pub after_write : (M : Model) (s t : Closed E ToSeal) (piece before after : List ℕ) (r : Result ℕ Refusal) → Writes meaning rule M (standing meaning s.sponge) → Wrote meaning rule s piece before t r after → Writes meaning rule (next M (written piece before after (answer_in (reply_to r)))) (standing meaning t.sponge)
   after_write M s t piece before after (Ok n) w wrote =
       let ciphers = wrote.2 in
       let same : absorbed rule (loaded meaning rule M) (M.so_far.addition ++ []) ≡ keyed meaning rule M = ap (absorbed rule (loaded meaning rule M)) (append-nil M.so_far.addition) in
@@ -41,12 +42,12 @@ module _ {E : Type 0} (meaning : E → List ℕ) (rule : List ℕ → List ℕ) 
         cipher = rw same (ap (λ (x : List ℕ). x ++ take (length piece) after) w.cipher ∙ sym (ciphers.whole (keyed meaning rule M) M.so_far.piece w.state));
       }
   after_write M s t piece before after (Err e) w wrote =
-      subst (λ (N : Model). Writes meaning rule N (standing meaning t.closed.sponge)) (sym (grown-nothing M))
-      (subst (λ (c : ClosedSealing E). Writes meaning rule M (standing meaning c.closed.sponge)) (sym wrote.3) w)
+      subst (λ (N : Model). Writes meaning rule N (standing meaning t.sponge)) (sym (grown-nothing M))
+      (subst (λ (c : Closed E ToSeal). Writes meaning rule M (standing meaning c.sponge)) (sym wrote.3) w)
 
-  pub at_write : (M : Model) (s t : ClosedSealing E) (piece before after : List ℕ) (r : Result ℕ Refusal) → Wrote meaning rule s piece before t r after → Sound rule M (written piece before after (answer_in (reply_to r)))
+  pub at_write : (M : Model) (s t : Closed E ToSeal) (piece before after : List ℕ) (r : Result ℕ Refusal) → Wrote meaning rule s piece before t r after → Sound rule M (written piece before after (answer_in (reply_to r)))
   at_write M s t piece before after (Ok n) wrote =
-      let p = standing meaning s.closed.sponge in
+      let p = standing meaning s.sponge in
       (wrote.0, wrote.1, ap (drop (length piece)) wrote.2.buffer ∙ drop_at (cipher_piece rule p piece) (drop (length piece) before) (length piece) (length_cipher_piece rule p piece))
   at_write M s t piece before after (Err e) wrote = (wrote.1, wrote.0, wrote.2)
 

@@ -128,10 +128,10 @@ module _ {E : Type 0} (meaning : E → List ℕ) (rule : List ℕ → List ℕ) 
   -- what the stage is after all that the engine has been given
   abbrev pub Holds : Stage E → Model → Type 0
   Holds (Free e) M = Unit {0}
-  Holds (AddingSealing s) M = Adds M (standing meaning s.adding.sponge)
-  Holds (Writing s) M = Writes M (standing meaning s.closed.sponge)
-  Holds (AddingOpening o) M = Adds M (standing meaning o.adding.sponge)
-  Holds (ReadyToOpen o) M = standing meaning o.closed.sponge ≡ at (keyed M) 0
+  Holds (AddingSealing s) M = Adds M (standing meaning s.sponge)
+  Holds (Writing s) M = Writes M (standing meaning s.sponge)
+  Holds (AddingOpening o) M = Adds M (standing meaning o.sponge)
+  Holds (ReadyToOpen o) M = standing meaning o.sponge ≡ at (keyed M) 0
   Holds (Fed f) M = FedWith meaning rule f M.so_far.input × (M.so_far.draw ≡ [])
   Holds (Drawn d) M = DrawnFrom meaning rule d M.so_far.input (length M.so_far.draw) × (M.so_far.draw ≡ output rule M.so_far.input (length M.so_far.draw))
 
