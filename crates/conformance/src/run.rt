@@ -9,7 +9,7 @@ use engine::refusal::Refusal;
 use gimli::plain::PlainEngine;
 use gimli::standing::StandingEngine;
 use gimli::three_share::ThreeShareEngine;
-use std::alloc::Global;
+use std::alloc::{AllocError, Global};
 use std::io::{BufRead, BufReader};
 use std::{array, io};
 
@@ -73,24 +73,16 @@ fn check_reference(heap: Global, vector: &Vector) -> Result<(), Difference> {
     }
 }
 
-// Prints a difference with its line, and counts it.
-fn show(
-    rt: &HostRuntime,
-    line: &str,
-    name: &str,
-    run: Result<(), Difference>,
-) -> anyhow::Result<u32> {
+// What differs, if anything does. Where there was no memory to tell, no more is run.
+fn found(run: Result<(), Difference>) -> Result<Option<&'static str>, AllocError> {
     match run {
-        Ok(()) => Ok(0),
-        Err(Difference::In(what)) => {
-            println!(rt; "{name} differs in {what}: {line}")?;
-            Ok(1)
-        }
-        Err(Difference::NoMemory(error)) => Err(error.into()),
+        Ok(()) => Ok(None),
+        Err(Difference::In(what)) => Ok(Some(what)),
+        Err(Difference::NoMemory(error)) => Err(error),
     }
 }
 
-// The number of differences that a vector shows.
+// Prints the differences that a vector shows, each with its line, and counts them.
 fn differences(
     rt: &HostRuntime,
     equipment: &Equipment,
@@ -99,24 +91,22 @@ fn differences(
 ) -> anyhow::Result<u32> {
     let heap = rt.alloc();
     let Equipment { three_share, key } = equipment;
+    let plain = found(check_engine(heap, PlainEngine::new(), key, vector))?;
+    let standing = found(check_engine(heap, StandingEngine::new(), key, vector))?;
+    let three_share = found(check_engine(heap, *three_share, key, vector))?;
+    let reference = found(check_reference(heap, vector))?;
     let runs = [
-        (
-            "the plain engine",
-            check_engine(heap, PlainEngine::new(), key, vector),
-        ),
-        (
-            "the standing engine",
-            check_engine(heap, StandingEngine::new(), key, vector),
-        ),
-        (
-            "the three-share engine",
-            check_engine(heap, *three_share, key, vector),
-        ),
-        ("the reference", check_reference(heap, vector)),
+        ("the plain engine", plain),
+        ("the standing engine", standing),
+        ("the three-share engine", three_share),
+        ("the reference", reference),
     ];
     let mut count = 0u32;
-    for (name, run) in runs {
-        count = count.saturating_add(show(rt, line, name, run)?);
+    for (name, difference) in runs {
+        if let Some(what) = difference {
+            println!(rt; "{name} differs in {what}: {line}")?;
+            count = count.saturating_add(1);
+        }
     }
     Ok(count)
 }
