@@ -6,6 +6,7 @@ ghost use Rattle.runs.specs.Lists.{either};
 
 use digest::feeding::Feeding;
 use digest::item::Item;
+pub use either::Either;
 use engine::engine::Engine;
 
 pub trait ItemList {
@@ -25,19 +26,13 @@ impl<I: Item> ItemList for Vec<I> {
 }
 
 // One of two kinds of lists. Nested, it is one of any number.
-#[derive(Drop)]
-pub enum Either<A, B> {
-    First(A),
-    Second(B),
-}
-
 impl<A: ItemList, B: ItemList> ItemList for Either<A, B> {
     ghost string = { either A.ItemList.string B.ItemList.string };
 
     fn feed_into<E: Engine>(&self, feeding: Feeding<E>) -> Feeding<E> {
         match self {
-            Either::First(list) => list.feed_into(feeding),
-            Either::Second(list) => list.feed_into(feeding),
+            Either::Left(list) => list.feed_into(feeding),
+            Either::Right(list) => list.feed_into(feeding),
         }
     }
 }
