@@ -51,14 +51,14 @@ fn feed_forces(heap: Global, forces: [u32; 2]) -> Result<Call<Lists>, AllocError
         .map(|force| ForceWord::new(*force))
         .collect(heap)?;
     Ok(Call::FeedList {
-        list: Either::First(list),
+        list: Either::Left(list),
     })
 }
 
 fn feed_note(heap: Global, note: Note) -> Result<Call<Lists>, AllocError> {
     let list = vec![in heap; note]?;
     Ok(Call::FeedList {
-        list: Either::Second(list),
+        list: Either::Right(list),
     })
 }
 

@@ -8,9 +8,8 @@ use Rattle.digest.specs.Notes.{note_bytes}
 use Rattle.digest.specs.declared.force_word.ForceWord.{ForceWord}
 use Rattle.digest.specs.declared.note.Note.{Note}
 use Rattle.gimli.specs.Strings.{gimli}
-use Rattle.runs.specs.Lists.{either}
+use Rattle.runs.specs.Lists.{Either, either}
 use Rattle.runs.specs.Runs.{Outcome}
-use Rattle.runs.specs.declared.list.Either.{Either}
 use Rattle.runs.specs.declared.script.Step.{Step}
 use Rattle.bench_console.specs.declared.screen.Screen.{Screen}
 use Rattle.bench_console.specs.declared.screen.Screen.TheVariants.{NotUnderstood, Refused, Ran}

@@ -60,10 +60,10 @@ impl Calls {
             }),
             [b"begin", b"digest"] => Ok(Call::BeginDigest),
             [b"feed", b"forces", forces @ ..] => Ok(Call::FeedList {
-                list: Either::First(making::forces(self.heap, forces)?),
+                list: Either::Left(making::forces(self.heap, forces)?),
             }),
             [b"feed", b"notes", notes @ ..] => Ok(Call::FeedList {
-                list: Either::Second(making::notes(self.heap, notes)?),
+                list: Either::Right(making::notes(self.heap, notes)?),
             }),
             [b"feed", piece] => Ok(Call::Feed {
                 piece: self.string(piece)?,

@@ -8,7 +8,7 @@ pub type Words = [u32; 12];
 
 const ROUNDS: u32 = 24;
 
-// The SP-box on column j.
+// The SP-box on column j, by place: a column is every fourth word.
 fn mix_column(s: &mut Words, j: usize)
     requires { j < 4 }
 {

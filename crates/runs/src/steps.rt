@@ -52,7 +52,8 @@ fn from_free<E: Engine, L: ItemList>(
     }
 }
 
-// As from_adding_opening, arm by arm: a trait for the two would repeat add, close and release for each of them.
+// As from_adding_opening, arm by arm: one function for both would take the stages before and behind close as closures, and
+// its contract would have to say of each what such a stage holds.
 fn from_adding_sealing<E: Engine, L: ItemList>(
     sealing: Sealing<E>,
     call: &Call<L>,
