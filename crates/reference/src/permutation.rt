@@ -1,5 +1,5 @@
 // The permutation on twelve words, row after row.
-ghost use Rattle.std.specs.Prelude.{◌≡◌, ◌<◌, length, is_some, ◌==◌};
+ghost use Rattle.std.specs.Prelude.{◌≡◌, length, is_some, ◌==◌};
 
 use crate::words::{WIDTH, front, xor_string};
 
@@ -9,9 +9,8 @@ pub type Words = [u32; 12];
 const ROUNDS: u32 = 24;
 
 // The SP-box on column j, by place: a column is every fourth word.
-fn mix_column(s: &mut Words, j: usize)
-    requires { j < 4 }
-{
+fn mix_column(s: &mut Words, j: usize) {
+    let j = j % 4;
     let x = s[j].rotate_left(24);
     let y = s[4 + j].rotate_left(9);
     let z = s[8 + j];
