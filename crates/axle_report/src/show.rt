@@ -1,4 +1,4 @@
-// Replies as a person reads them.
+// Replies as a person reads them. The console shows them in other words, of its own.
 use hex_text::showing::Hex;
 use runs::script::Reply;
 use std::fmt;

@@ -25,7 +25,7 @@ fn count_refusals(steps: &[Step<Lists>]) -> usize
         .count()
 }
 
-// The line of a call that may not stand where it is.
+// The line of a call that may not stand where it is. It begins as a Line does, and has another end.
 #[derive(Drop)]
 struct Misplaced<'a> {
     number: usize,

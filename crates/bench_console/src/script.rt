@@ -83,7 +83,8 @@ impl Reading {
         Ok(())
     }
 
-    // The book is made once, and before the first call.
+    // The book is made once, and before the first call. As the engine, with another field: one function for both would take
+    // the field and the making as parameters.
     fn set_book(&mut self, name: &[u8], count: &[u8]) -> Result<(), Fault> {
         if self.book.is_some() {
             return Err(Fault::NotUnderstood);

@@ -51,7 +51,7 @@ impl<E: Engine, U> Closed<E, U> {
         sponge.pad().squeeze(tag).into_engine()
     }
 
-    // Gives the box up. The engine comes back cleared.
+    // Gives the box up. The engine comes back cleared. Two lines, as Adding's: a trait for both would be longer.
     pub fn release(self) -> E
         ensures { E.meaning result ≡ zeros }
     {

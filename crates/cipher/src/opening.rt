@@ -30,7 +30,8 @@ impl<E: Engine> Adding<E, ToOpen> {
 
 impl<E: Engine> Closed<E, ToOpen> {
     // Opens a box into the first bytes of a buffer, and answers the message's length. The engine comes back cleared.
-    // Of a box that is refused for its tag, zeros stand where its message would.
+    // Of a box that is refused for its tag, zeros stand where its message would. Answer and engine are a pair: the engine comes
+    // back whatever the answer is.
     pub fn open(self, sealed: &[u8], buffer: &mut [u8]) -> (E, Result<usize, Refusal>)
         ensures opens { (s : List ℕ) → standing E.meaning self.sponge ≡ at s 0 → Opens E.rule s sealed.now buffer.old buffer.new result.1 }
         ensures cleared { E.meaning result.0 ≡ zeros }

@@ -1,4 +1,5 @@
-// Whole records, made of the calls of this crate.
+// Whole records, made of the calls of this crate. Engine, key, nonce and associated data stay apart: a struct of them would be
+// made and taken apart in one line.
 ghost use Rattle.std.specs.Prelude.{◌≡◌, [], ◌++◌};
 ghost use Rattle.engine.specs.Strings.{zeros};
 ghost use Rattle.sponge.specs.Blocks.{absorbed, sealed_box};
@@ -27,6 +28,7 @@ pub fn seal_message<E: Engine>(
     ensures cleared { E.meaning result.0 ≡ zeros }
 {
     let (closed, answer) = closed_sealing(engine, key, nonce, ad).write(message, buffer);
+    // a pair in each arm: taken out of the match, the engine costs a line more
     match answer {
         Ok(n) => (closed.finish(tag), Ok(n)),
         Err(e) => (closed.release(), Err(e)),

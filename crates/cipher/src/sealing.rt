@@ -36,7 +36,7 @@ impl<E: Engine> Adding<E, ToSeal> {
 
 impl<E: Engine> Closed<E, ToSeal> {
     // Writes the ciphertext of the message's next piece into the first bytes of a buffer, and answers the piece's length.
-    // A buffer that is shorter than the piece is refused.
+    // A buffer that is shorter than the piece is refused. The sealing moves, so it comes back beside the answer.
     pub fn write(
         self,
         piece: &[u8],

@@ -53,6 +53,7 @@ fn digests<E: Engine + Copy>(
 }
 
 fn permutations<E: Engine + Copy>(engine: E, string: &[u8], place: usize, tally: &mut Tally) {
+    // no answer counts as agreeing, which a control must not
     let Some(mut after) = permuted(string) else {
         return tally.count(true);
     };

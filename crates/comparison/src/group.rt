@@ -115,6 +115,7 @@ impl Group {
         bench: &Bench<E>,
         tally: &mut Tally,
     ) -> anyhow::Result<()> {
+        // n is the case's number, and no place in a row
         for n in 0..self.cases() {
             let agrees = self.agrees(bench, n, tally)?;
             tally.note(rt, bench.name, n, agrees)?;

@@ -26,6 +26,7 @@ struct Benches<'a> {
     three_share: Bench<'a, ThreeShareEngine>,
 }
 
+// One line, as in `conformance`: no crate stands below the two programs alone.
 fn mask(step: u8) -> [u8; WIDTH] {
     array::from_fn(|place| step.wrapping_mul(1 + place as u8))
 }

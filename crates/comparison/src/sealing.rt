@@ -17,6 +17,7 @@ pub(crate) fn seals_whole<E: Engine + Copy>(
 ) -> Result<bool, AllocError> {
     let mut text = vec![in bench.heap; 0; case.message.len()]?;
     let mut tag = [0; TAG_LEN];
+    // a refusal here is a difference like others
     let Ok((key, nonce)) = case.key_and_nonce() else {
         return Ok(false);
     };
@@ -68,6 +69,7 @@ pub(crate) fn seals<E: Engine + Copy>(
 ) -> Result<bool, AllocError> {
     let mut text = vec![in bench.heap; UNTOUCHED; case.message.len()]?;
     let mut tag = [0; TAG_LEN];
+    // a refusal here is a difference like others
     let Ok(mut closed) = closed_sealing(bench.engine, case, size) else {
         return Ok(false);
     };

@@ -73,6 +73,7 @@ impl<E: Engine + Copy> Bench<'_, E> {
         let message = v.message.as_slice();
         let mut text = vec![in self.heap; 0; message.len()]?;
         let mut tag = [0; TAG_LEN];
+        // a nonce that is refused is a difference like others
         let Ok(nonce) = issued_nonce() else {
             return Ok(false);
         };

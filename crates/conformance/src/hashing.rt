@@ -11,7 +11,8 @@ use reference::hash::{hash, long_output};
 // The bytes that draws of 1, 15, 16, 17 and 100 bytes give.
 const LONG: usize = 149;
 
-// Whether the hash of a string that is fed in pieces of a size is a digest.
+// Whether the hash of a string that is fed in pieces of a size is a digest. The sizes are literals: no constant can be a
+// NonZeroUsize other than 1.
 fn hashes_cut<E: Engine + Copy>(engine: E, v: &HashVector, size: usize) -> bool
     requires { 0 < size }
 {

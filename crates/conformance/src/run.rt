@@ -41,6 +41,7 @@ struct Equipment {
     key: Key,
 }
 
+// One line, as in `comparison`: no crate stands below the two programs alone.
 fn mask(step: u8) -> [u8; WIDTH] {
     array::from_fn(|place| step.wrapping_mul(1 + place as u8))
 }
@@ -65,6 +66,7 @@ fn check_engine<E: Engine + Copy>(
     }
 }
 
+// As check_engine, by kinds: the second implementation has no engine to be a parameter.
 fn check_reference(heap: Global, vector: &Vector) -> Result<(), Difference> {
     match vector {
         Vector::Permutation(v) => permuting::check_reference(v),

@@ -27,7 +27,7 @@ impl<E: Engine> Drawing<E> {
         }
     }
 
-    // Gives the digest up. The engine comes back cleared.
+    // Gives the digest up. The engine comes back cleared. Two lines, as Feeding's: a trait for both would be longer.
     pub fn release(self) -> E
         ensures { E.meaning result ≡ zeros }
     {

@@ -11,6 +11,7 @@ use crate::item::Item;
 use engine::engine::Engine;
 use sponge::sponge::Sponge;
 
+// What was fed is said by `Fed` and is no ghost field, so that the contracts of feeding hold of a digest in any state.
 pub struct Feeding<E> {
     sponge: Sponge<E>,
 }
@@ -59,7 +60,7 @@ impl<E: Engine> Feeding<E> {
         }
     }
 
-    // Gives the digest up. The engine comes back cleared.
+    // Gives the digest up. The engine comes back cleared. Two lines, as Drawing's: a trait for both would be longer.
     pub fn release(self) -> E
         ensures { E.meaning result ≡ zeros }
     {

@@ -9,7 +9,8 @@ use engine::refusal::Refusal;
 // The longest text of a note.
 pub const LONGEST: usize = 28;
 
-// Any numbers make a note: its length is read as at most 28.
+// Any numbers make a note: its length is read as at most 28. A plain row with the length beside the text: no heap is needed,
+// and the row is copied as it stands.
 #[derive(Clone, Copy)]
 pub struct Note {
     len: u8,

@@ -17,6 +17,7 @@ pub fn xor_string<E: Engine>(engine: &mut E, place: usize, string: &[u8])
 pub fn holds<E: Engine>(engine: &E, string: &[u8]) -> bool
     ensures { IsTrue result ↔ BeginsWith string.now (E.meaning engine.now) }
 {
+    // a loop: of a chain with `all` no short proof was found
     for (place, b) in string.iter().enumerate() {
         if engine.byte(place) != Ok(*b) {
             return false;

@@ -9,6 +9,7 @@ use crate::rounds::{add_constant, big_swap, small_swap};
 use crate::sp_box::Column;
 use crate::state::State;
 
+// Structs in an array: a share is lent to be changed, and the others stay.
 #[derive(Clone, Copy)]
 pub struct Shares {
     pub share: [State; 3],
@@ -49,6 +50,7 @@ fn columns(s: Shares) -> Shares
     }
 }
 
+// Two functions for the two swaps, each by the name of its rule.
 fn small_swaps(s: Shares) -> Shares
     ensures { result.share ≡ shared_small_swap s.share }
 {
@@ -74,7 +76,7 @@ fn constant(s: Shares, number: u32) -> Shares
     }
 }
 
-// Four rounds from a multiple of 4 on.
+// Four rounds from a multiple of 4 on, spelled out as for one state.
 fn four_rounds(s: Shares, number: u32) -> Shares
     ensures { result.share ≡ shared_columns (shared_big_swap (shared_columns (shared_columns (shared_constant number (shared_small_swap (shared_columns s.share)))))) }
 {

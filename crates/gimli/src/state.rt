@@ -10,6 +10,7 @@ use crate::sp_box::Column;
 use engine::engine::WIDTH;
 use engine::refusal::Refusal;
 
+// Three arrays in a plain struct, by the names of the rows: rounds take and give it by value.
 #[derive(Clone, Copy)]
 pub struct State {
     pub top: [u32; 4],

@@ -31,6 +31,7 @@ pub(crate) fn front<const N: usize>(s: &Words) -> [u8; N] {
 
 // Ends a string of n bytes, of which the last block is taken in.
 pub(crate) fn end_string(s: &mut Words, n: usize) {
+    // one bit of one word each
     s[n % BLOCK / 4] ^= 1 << (8 * (n % 4));
     s[11] ^= 0x0100_0000;
     permute(s);

@@ -1,4 +1,5 @@
-// One call of a run, by the stage in which it stands: the stage that comes, and the reply.
+// One call of a run, by the stage in which it stands: the stage that comes, and the reply. Release is an arm of each stage:
+// taken out of them, no stage's contract would hold of every call.
 ghost use Rattle.runs.specs.Stages.{CallTaken, Moved};
 
 use crate::list::ItemList;
