@@ -16,7 +16,8 @@ pub struct Closed<E, U> {
 }
 
 impl<E: Engine, U> Closed<E, U> {
-    // Ciphers a piece into the first bytes of a buffer.
+    // Ciphers a piece into the first bytes of a buffer. As decipher, with another step: one loop for both would promise what
+    // it does by a relation that is passed in.
     pub(crate) fn cipher(mut self, piece: &[u8], buffer: &mut [u8]) -> Closed<E, U>
         requires { length piece.now ≤ length buffer.old }
         ensures { Ciphers E.rule (standing E.meaning self.sponge) piece.now buffer.old buffer.new (standing E.meaning result.sponge) }

@@ -14,7 +14,7 @@ pub struct Key {
 }
 
 impl Key {
-    // The key of a string; one that is not 32 bytes is refused.
+    // The key of a string; one that is not 32 bytes is refused. `new` and no TryFrom, for which an array is no slice.
     pub fn new(string: &[u8]) -> Result<Key, Refusal>
         ensures { KeyMade string.now result }
     {

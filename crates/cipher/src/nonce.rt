@@ -13,7 +13,7 @@ pub struct BoxNonce {
 }
 
 impl BoxNonce {
-    // The nonce of a string; one that is not 16 bytes is refused.
+    // The nonce of a string; one that is not 16 bytes is refused. `new` and no TryFrom, for which an array is no slice.
     pub fn new(string: &[u8]) -> Result<BoxNonce, Refusal>
         ensures { BoxNonceMade string.now result }
     {

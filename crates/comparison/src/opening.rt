@@ -74,7 +74,8 @@ impl<'a> Attempt<'a> {
         }
     }
 
-    // Opens the box on an engine, the associated data in pieces of a size.
+    // Opens the box on an engine, the associated data in pieces of a size. As in `conformance`, which has one key and one nonce
+    // for all.
     fn open<E: Engine + Copy>(
         &self,
         engine: E,

@@ -9,7 +9,7 @@ use engine::refusal::Refusal;
 use std::alloc::AllocError;
 use std::num::NonZeroUsize;
 
-// Whether a case in one piece gives a box.
+// Whether a case in one piece gives a box. As in `conformance`, which has one key and one nonce for all.
 pub(crate) fn seals_whole<E: Engine + Copy>(
     bench: &Bench<E>,
     case: &Case,

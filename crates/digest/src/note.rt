@@ -18,7 +18,7 @@ pub struct Note {
 }
 
 impl Note {
-    // A note of a text; one longer than 28 bytes is refused.
+    // A note of a text; one longer than 28 bytes is refused. `new` and no TryFrom, for which an array is no slice.
     pub fn new(text: &[u8]) -> Result<Note, Refusal>
         ensures { Noted text.now result }
     {

@@ -1,4 +1,4 @@
-// Where a run stands: what the engine is taken by.
+// Where a run stands: what the engine is taken by. An enum, matched on: each stage is moved out of by calls of its own.
 use cipher::opening::{ClosedOpening, Opening};
 use cipher::sealing::{ClosedSealing, Sealing};
 use digest::drawing::Drawing;
