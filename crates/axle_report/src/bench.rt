@@ -151,10 +151,9 @@ pub(crate) fn report(rt: &HostRuntime) -> anyhow::Result<Sealed> {
     } = set_up()?;
     let heap = rt.alloc();
     let mut script = Vec::new(heap);
-    for call in seal_calls(heap, key)? {
-        script.push(Step::new(call))?;
-    }
-    for call in slip_calls(heap, note)? {
+    let sealing = seal_calls(heap, key)?;
+    let slip = slip_calls(heap, note)?;
+    for call in sealing.into_iter().chain(slip) {
         script.push(Step::new(call))?;
     }
     let Ended { engine: _, ran } = run(&mut book, engine, &mut script);

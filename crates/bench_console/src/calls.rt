@@ -17,7 +17,7 @@ pub(crate) type Lists = Either<Vec<ForceWord>, Vec<Note>>;
 pub(crate) struct Calls {
     heap: Global,
     pub(crate) steps: Vec<Step<Lists>>,
-    // the steps that issue
+    // the steps that issue, so that the nth is found without a search through all
     issues: Vec<usize>,
 }
 

@@ -50,6 +50,6 @@ pub(crate) fn notes(heap: Global, words: &[&[u8]]) -> Result<Vec<Note>, Fault> {
         .try_collect(heap)?;
     texts
         .iter()
-        .map(|text| -> Result<Note, Fault> { Ok(Note::new(text.as_slice())?) })
+        .map(|text| Note::new(text.as_slice()).map_err(Fault::from))
         .try_collect(heap)
 }

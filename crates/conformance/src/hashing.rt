@@ -11,8 +11,8 @@ use reference::hash::{hash, long_output};
 // The bytes that draws of 1, 15, 16, 17 and 100 bytes give.
 const LONG: usize = 149;
 
-// Whether the hash of a string that is fed in pieces of a size is a digest. The sizes are literals: no constant can be a
-// NonZeroUsize other than 1.
+// Whether the hash of a string that is fed in pieces of a size is a digest. The sizes are literals: as
+// NonZeroUsize each would be made and unwrapped at its call.
 fn hashes_cut<E: Engine + Copy>(engine: E, v: &HashVector, size: usize) -> bool
     requires { 0 < size }
 {

@@ -9,7 +9,7 @@ pub fn xor_string<E: Engine>(engine: &mut E, place: usize, string: &[u8])
     ensures { E.meaning engine.new ≡ xored_from (E.meaning engine.old) place string.now }
 {
     for (p, b) in (place..WIDTH).zip(string) {
-        let _ = engine.xor_byte(p, *b);
+        engine.xor_byte(p, *b).unwrap();
     }
 }
 

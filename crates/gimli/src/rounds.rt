@@ -59,10 +59,9 @@ pub(crate) fn round(s: State, number: u32) -> State
 }
 
 // The first n rounds, from 24 on; all of them if n is more than 24.
-pub fn first_rounds(s: State, n: u32) -> State
+pub fn first_rounds(mut s: State, n: u32) -> State
     ensures { result ≡ first_rounds (min n 24) s }
 {
-    let mut s = s;
     for number in (1..25).rev().take(n as usize) {
         s = round(s, number);
     }
@@ -80,10 +79,9 @@ fn four_rounds(s: State, number: u32) -> State
 }
 
 // In a loop the words stay in registers from one group of rounds to the next.
-pub fn permutation(s: State) -> State
+pub fn permutation(mut s: State) -> State
     ensures { result ≡ permutation s }
 {
-    let mut s = s;
     for number in [24, 20, 16, 12, 8, 4] {
         s = four_rounds(s, number);
     }

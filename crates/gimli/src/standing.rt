@@ -54,6 +54,7 @@ impl Standing {
         ensures k { result.k ≡ self.k }
     {
         let columns = State::from_columns(|j| sp_box(self.column(j)));
+        // four writes, each to the place where the word of its column stands
         let mut top = self.stored.top;
         let [x0, x1, x2, x3] = columns.top;
         top[self.place(0)] = x0;

@@ -19,7 +19,7 @@ pub struct State {
 }
 
 // The word that begins at a place of a string, its lowest byte first.
-// Byte by byte: four bytes taken from a slice as an array are an Option, and here there is no other case.
+// Byte by byte: four bytes taken from a slice as an array are an Option, whose other case would have to be proved away.
 fn word_at(string: &[u8], place: usize) -> u32
     requires { place + 4 ≤ length string.now }
     ensures { result ≡ word_at string.now place }
@@ -49,6 +49,7 @@ impl State {
         requires { (j : ℕ) → j < 4 → F.pre f j }
         ensures { (c : ℕ → ColumnWords) → ((j : ℕ) (r : ColumnWords) → j < 4 → F.post f j r → r ≡ c j) → result ≡ from_columns c }
     {
+        // four calls: an array of columns would be taken apart at once
         let (x0, y0, z0) = f(0);
         let (x1, y1, z1) = f(1);
         let (x2, y2, z2) = f(2);
@@ -111,6 +112,7 @@ impl State {
             return Err(Refusal::PlaceOutsideState);
         }
         let column = place % 16 / 4;
+        // row by row, as in xor_byte: a row lent by number would need a contract of its own
         let word = match place / 16 {
             0 => self.top[column],
             1 => self.middle[column],

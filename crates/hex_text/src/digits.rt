@@ -5,7 +5,7 @@ ghost use Rattle.hex_text.specs.Readers.{Reads};
 
 use std::fmt;
 
-// The number that a hex digit stands for.
+// The number that a hex digit stands for. A match on the character: the library's `to_digit` takes A to F, too.
 pub fn hex_digit(c: char) -> Option<u8>
     ensures { Reads (λ d. d < 16) digit c result }
 {

@@ -11,6 +11,7 @@ use std::alloc::{AllocError, Global};
 pub fn fill_string(digits: &[u8], string: &mut [u8]) -> Option<()>
     ensures { ReadsInto hex (length string.old) digits.now result string.new }
 {
+    // by hand, pair by pair: of a zip with `iter_mut` a proof knows no elements
     let mut rest = digits;
     for b in string.iter_mut() {
         let [high, low, after @ ..] = rest else {

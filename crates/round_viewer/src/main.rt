@@ -1,7 +1,7 @@
 // The round viewer: a request on standard input, the state after its rounds on standard output.
 #![tactic(auto)]
 
-ghost use Rattle.std.specs.Prelude.{◌≡◌, take, IfOk, IfSome};
+ghost use Rattle.std.specs.Prelude.{◌≡◌, ℕ, List, take, IfOk, IfSome};
 ghost use Rattle.round_viewer.specs.Lines.{text};
 ghost use Rattle.round_viewer.specs.Views.{Views};
 
@@ -29,9 +29,10 @@ fn read_input<R: Read + Drop>(heap: Global, input: R) -> io::Result<Vec<u8>>
     Ok(bytes)
 }
 
-// What to show for an input, the whole of it.
+// What to show for an input, the whole of it where it is known what the reader holds.
 fn shown<R: Read + Drop>(heap: Global, input: R) -> io::Result<Screen>
-    ensures { IfOk result (λ screen. IfSome (R.remaining input) (λ all. Views all (text screen))) }
+    ensures some { IfOk result (λ screen. (read : List ℕ) × Views read (text screen)) }
+    ensures whole { IfOk result (λ screen. IfSome (R.remaining input) (λ all. Views all (text screen))) }
 {
     let bytes = read_input(heap, input)?;
     Ok(view(&bytes))

@@ -43,10 +43,9 @@ fn round_count(tens: char, ones: char) -> Option<u32>
 fn parts(input: &[u8]) -> Option<(char, char, &[u8])>
     ensures { Parts input.now result }
 {
-    let [tens, ones, b' ', .., b'\n'] = input else {
+    let [tens, ones, b' ', digits @ .., b'\n'] = input else {
         return None;
     };
-    let digits = &input[3..input.len() - 1];
     Some((*tens as char, *ones as char, digits))
 }
 

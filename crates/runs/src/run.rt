@@ -24,7 +24,8 @@ struct Reached<E> {
     ran: usize,
 }
 
-// The nonce of an earlier step, if that step issued one and no sealing took it yet.
+// The nonce of an earlier step, if that step issued one and no sealing took it yet. Script and place are no struct: the
+// script is lent anew for each call.
 fn spend<L>(script: &mut [Step<L>], issue: usize, at: usize) -> Option<IssuedNonce>
     requires { at ≤ length script.old }
     ensures { (d : Step L) → Spends script.old issue at d result script.new }

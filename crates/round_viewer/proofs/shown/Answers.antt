@@ -9,5 +9,9 @@ known : (bytes output : List ℕ) (input : Option (List ℕ)) → IfSome input (
 known bytes output (Some all) is views = whole_shown all output (rw is at views)
 known bytes output None is views = is
 
-pub returns : goal.returns
-returns g c = known c.deref.result.now (text c.view.result) (g.R.Read.remaining c.args.input) (rw c.deref.ensures.value c.in_ok-bytes.ensures) c.view.ensures
+pub returns-clause-some : goal.returns-clause-some
+returns-clause-some g c = (c.deref.result.now, c.view.ensures)
+
+pub returns-clause-whole : goal.returns-clause-whole
+returns-clause-whole g c =
+    known c.deref.result.now (text c.view.result) (g.R.Read.remaining c.args.input) (rw c.deref.ensures.value c.in_ok-bytes.ensures) c.view.ensures
