@@ -1,4 +1,5 @@
 mod Bits
+mod Groups
 pub mod SharedStrings
 mod Sharing
 mod StandingRow

@@ -1,5 +1,6 @@
-use Rattle.std.proofs.Common.{◌≡◌, ℕ, zero, suc, ◌+◌, ◌*◌, ◌<◌, [], ◌∷◌, get_or, refl, ap, ◌∙◌, arith}
+use Rattle.std.proofs.Common.{◌≡◌, ℕ, ◌*◌, refl, ap, ◌∙◌, arith}
 use Rattle.gimli.specs.Shares.{Sharing, shared_columns, shared_small_swap, shared_big_swap, shared_constant, shared_round, first_shared_rounds, shared_permutation, joined}
+use Rattle.gimli.proofs.Groups.{Groups, turn}
 use Rattle.gimli.proofs.Sharing.{three_shares_make_one_permutation}
 use Rattle.gimli.proofs.shares.Shares.permutation.Goals as goal
 
@@ -7,15 +8,9 @@ use Rattle.gimli.proofs.shares.Shares.permutation.Goals as goal
 abbrev four : ℕ → Sharing → Sharing
 four r s = shared_columns (shared_big_swap (shared_columns (shared_columns (shared_constant r (shared_small_swap (shared_columns s))))))
 
-four_more : (n : ℕ) (s : Sharing) → n < 6 → four (get_or (24 ∷ 20 ∷ 16 ∷ 12 ∷ 8 ∷ 4 ∷ []) n 0) (first_shared_rounds (4 * n) s) ≡ first_shared_rounds (4 * (n + 1)) s
+groups : (s : Sharing) → Groups four first_shared_rounds s
 unfolding first_shared_rounds shared_round
-four_more zero s h = refl
-four_more (suc zero) s h = refl
-four_more (suc (suc zero)) s h = refl
-four_more (suc (suc (suc zero))) s h = refl
-four_more (suc (suc (suc (suc zero)))) s h = refl
-four_more (suc (suc (suc (suc (suc zero))))) s h = refl
-four_more (suc (suc (suc (suc (suc (suc n)))))) s h = absurd (omega arith)
+groups s = record { one = refl; two = refl; three = refl; fourth = refl; five = refl; six = refl }
 
 pub loop-number-init : goal.loop-number-init
 unfolding first_shared_rounds
@@ -23,9 +18,9 @@ loop-number-init c = refl
 
 pub loop-number-preserved : goal.loop-number-preserved
 loop-number-preserved c =
-    c.four_rounds-s.ensures
-    ∙ ap (four (get_or (24 ∷ 20 ∷ 16 ∷ 12 ∷ 8 ∷ 4 ∷ []) c.loop-number.number-index 0)) c.loop-number.invariant
-    ∙ four_more c.loop-number.number-index c.args.self.share c.loop-number-test.true
+    let s = c.args.self.share in
+    turn four first_shared_rounds s (groups s) c.loop-number.number-index c.loop-number.s.share c.four_rounds-s.result.share
+    c.loop-number-test.true c.loop-number.invariant c.four_rounds-s.ensures
 
 pub returns : goal.returns
 unfolding shared_permutation
