@@ -30,6 +30,12 @@ note_bytes-take n long small =
 pub length_note : (n : Note) → length (note_bytes n) ≡ text_len n + 1
 length_note n = let e = length-text n in omega arith
 
+pub get_or_note : (n : Note) (i : ℕ) → i < text_len n → slice_index (note_bytes n) (i + 1) ≡ letter n i
+unfolding text_bytes
+get_or_note n i h =
+    let e : i + 1 ≡ suc i = omega arith in
+    ap (λ (k : ℕ). slice_index (note_bytes n) k) e ∙ get_or-map-range_with_len (letter n) 0 (text_len n) i i 0 h (omega arith)
+
 pub note_each_byte : (n : Note) (i : ℕ) → slice_index (note_bytes n) i < 256
 unfolding text_bytes
 note_each_byte n zero = omega arith
