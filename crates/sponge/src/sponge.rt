@@ -6,10 +6,9 @@ ghost use Rattle.sponge.specs.Blocks.{rate};
 ghost use Rattle.sponge.specs.Calls.{Absorbs, Pads, Squeezes};
 ghost use Rattle.sponge.specs.Steps.{at, standing, byte_of, xored_in, advanced, absorb_byte};
 
+pub use crate::block::RATE;
+use crate::block::{absorb_byte, advance, byte_at, xor_in};
 use engine::engine::{Engine, WIDTH};
-
-// The number of bytes in a full block.
-pub const RATE: usize = 16;
 
 pub struct Sponge<E> {
     pub engine: E,
@@ -73,14 +72,14 @@ impl<E: Engine> Sponge<E> {
         ensures state { standing E.meaning self.new ≡ xored_in (standing E.meaning self.old) b }
         ensures place { self.new.place ≡ self.old.place }
     {
-        self.engine.xor_byte(self.place % RATE, b).unwrap();
+        xor_in(&mut self.engine, self.place, b);
     }
 
     // The byte at the place.
     pub fn byte(&self) -> u8
         ensures { result ≡ byte_of (standing E.meaning self.now) }
     {
-        self.engine.byte(self.place % RATE).unwrap()
+        byte_at(&self.engine, self.place)
     }
 
     // Goes past the place. A full block is followed by the permutation.
@@ -88,10 +87,7 @@ impl<E: Engine> Sponge<E> {
         ensures state { standing E.meaning self.new ≡ advanced E.rule (standing E.meaning self.old) }
         ensures in_block { self.new.place < rate }
     {
-        self.place = (self.place % RATE + 1) % RATE;
-        if self.place == 0 {
-            self.engine.permute();
-        }
+        self.place = advance(&mut self.engine, self.place);
     }
 
     // Takes in one byte.
@@ -99,8 +95,7 @@ impl<E: Engine> Sponge<E> {
         ensures state { standing E.meaning self.new ≡ absorb_byte E.rule (standing E.meaning self.old) b }
         ensures in_block { self.new.place < rate }
     {
-        self.xor_in(b);
-        self.advance();
+        self.place = absorb_byte(&mut self.engine, self.place, b);
     }
 }
 
