@@ -22,10 +22,10 @@ impl<E: Engine, U> Closed<E, U> {
         requires { length piece.now ≤ length buffer.old }
         ensures { Ciphers E.rule (standing E.meaning self.sponge) piece.now buffer.old buffer.new (standing E.meaning result.sponge) }
     {
-        let front = &mut buffer[..piece.len()];
-        front.copy_from_slice(piece);
-        for b in front.iter_mut() {
-            *b = self.cipher_byte(*b);
+        // by places, each written once: in place, plain text would stand in the buffer, and of a zip with the buffer's bytes a
+        // proof knows no elements
+        for (i, b) in piece.iter().enumerate() {
+            buffer[i] = self.cipher_byte(*b);
         }
         self
     }
@@ -35,10 +35,9 @@ impl<E: Engine, U> Closed<E, U> {
         requires { length text.now ≤ length buffer.old }
         ensures { Deciphers E.rule (standing E.meaning self.sponge) text.now buffer.old buffer.new (standing E.meaning result.sponge) }
     {
-        let front = &mut buffer[..text.len()];
-        front.copy_from_slice(text);
-        for b in front.iter_mut() {
-            *b = self.decipher_byte(*b);
+        // by places, as in cipher
+        for (i, c) in text.iter().enumerate() {
+            buffer[i] = self.decipher_byte(*c);
         }
         self
     }

@@ -1,5 +1,5 @@
 // A whole box opened. Its tag is checked only once its text is deciphered, so the message of a refused box is overwritten.
-ghost use Rattle.std.specs.Prelude.{◌≡◌, ℕ, List, ◌↔◌, IsTrue};
+ghost use Rattle.std.specs.Prelude.{◌≡◌, ℕ, ◌≤◌, List, ◌++◌, ◌↔◌, IsTrue, length, drop, replicate};
 ghost use Rattle.engine.specs.Strings.{zeros};
 ghost use Rattle.sponge.specs.Steps.{at, standing};
 ghost use Rattle.cipher.specs.Openings.{Opens};
@@ -28,13 +28,13 @@ pub(crate) fn open_box<E: Engine>(
     let mut tag = [0; TAG_LEN];
     let engine = closed.decipher(text, buffer).end(&mut tag);
     if !equal(&tag, sealed_tag) {
-        buffer[..text.len()].fill(0);
+        wipe(buffer, text.len());
         return (engine, Err(Refusal::TagDiffers));
     }
     (engine, Ok(text.len()))
 }
 
-// Whether two tags are equal. Every byte is looked at, wherever the first difference is, so the time tells nothing.
+// Whether two tags are equal. Every byte is looked at, wherever the first difference is.
 fn equal(a: &[u8; TAG_LEN], b: &[u8; TAG_LEN]) -> bool
     ensures { IsTrue result ↔ (a.now ≡ b.now) }
 {
@@ -43,4 +43,12 @@ fn equal(a: &[u8; TAG_LEN], b: &[u8; TAG_LEN]) -> bool
         differences |= x ^ y;
     }
     differences == 0
+}
+
+// Overwrites the first n bytes of a buffer with zeros.
+fn wipe(buffer: &mut [u8], n: usize)
+    requires { n ≤ length buffer.old }
+    ensures { buffer.new ≡ replicate n 0 ++ drop n buffer.old }
+{
+    buffer[..n].fill(0);
 }

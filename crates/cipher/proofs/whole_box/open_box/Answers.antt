@@ -1,4 +1,4 @@
-use Rattle.std.proofs.Common.{◌≡◌, ◌≢◌, ℕ, ◌-◌, ◌≤◌, List, ◌++◌, length, take, drop, replicate, sym, refl, ap, ◌∙◌, inl, inr, arith}
+use Rattle.std.proofs.Common.{◌≡◌, ◌≢◌, ℕ, ◌-◌, List, ◌++◌, length, take, drop, replicate, sym, refl, ap, ◌∙◌, inl, inr, arith}
 use Rattle.std.proofs.lemmas.List.{length-drop, length-take-le, take-append-drop}
 use Rattle.engine.specs.Strings.{Bytes}
 use Rattle.sponge.specs.Blocks.{rate}
@@ -36,15 +36,13 @@ returns-then-not-equal-clause-opens g c =
     let short : length end ≡ rate = ap length back ∙ length-drop n sealed ∙ omega arith in
     let other : c.end-engine.new.tag ≢ end = λ e. cc (c.if-not-equal.ensures.1 e) in
     let fits : length text ≡ n = omega arith in
-    let room : length text ≤ length after = omega arith in
-    let zeros : c.fill.new.self ≡ replicate n 0 = c.fill.ensures.after (λ y e. e) ∙ ap (λ (k : ℕ). replicate k 0) (length-take-le (length text) after room ∙ fits) in
     opens g.E.Engine.rule met.keeps _ _ _ _ _ (met.whole c.args.closed.sponge.engine) bytes
     (λ s w start. inr (inr (record {
       number_is = refl;
       long = omega arith;
       room = omega arith;
       none = no_box g.E.Engine.rule met.keeps s w sealed bytes _ _ text end before after _ start (joined sealed text end n front back) c.decipher.ensures c.end-engine.ensures.tag short other;
-      buffer = ap (λ (x : List ℕ). x ++ drop (length text) after) zeros ∙ ap (λ (x : List ℕ). replicate n 0 ++ x) c.decipher.ensures.rest ∙ ap (λ (k : ℕ). replicate n 0 ++ drop k before) fits;
+      buffer = c.wipe.ensures ∙ ap (λ (x : List ℕ). replicate (length text) 0 ++ x) c.decipher.ensures.rest ∙ ap (λ (k : ℕ). replicate k 0 ++ drop k before) fits;
     })))
 
 pub returns-clause-opens : goal.returns-clause-opens

@@ -3,12 +3,12 @@ use Rattle.sponge.specs.Steps.{standing, absorb_piece}
 use Rattle.cipher.specs.Ciphering.{cipher_piece}
 use Rattle.cipher.proofs.closed.Closed.decipher.Given as goal
 
--- what is deciphered has the front of the text for its ciphertext, and is taken in
-abbrev pub invariant-loop-b : goal.invariant-loop-b
-invariant-loop-b g l =
+-- the front of the buffer has the front of the text for its ciphertext, and is taken in
+abbrev pub invariant-loop-i : goal.invariant-loop-i
+invariant-loop-i g l =
     let e = g.E.Engine in
     let start = standing e.meaning l.initial.self.sponge in
-    let done = take l.b-index l.front in
-    (take l.b-index l.text ≡ cipher_piece e.rule start done)
-    × (drop l.b-index l.front ≡ drop l.b-index l.text)
-    × (standing e.meaning l.self.sponge ≡ absorb_piece e.rule start done)
+    let front = take l.i l.buffer in
+    (take l.i l.text ≡ cipher_piece e.rule start front)
+    × (drop l.i l.buffer ≡ drop l.i l.initial.buffer)
+    × (standing e.meaning l.self.sponge ≡ absorb_piece e.rule start front)
