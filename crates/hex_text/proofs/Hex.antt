@@ -1,6 +1,6 @@
 -- A string's hex digits stand two by two, and are those of no other string.
-use Rattle.std.proofs.Common.{◌≡◌, ℕ, zero, suc, ◌+◌, ◌*◌, ◌/◌, ◌%◌, ◌<◌, List, [], ◌∷◌, ◌++◌, length, get_or, drop, sym, refl, ap, ◌∙◌, arith}
-use Rattle.std.proofs.lemmas.List.{ext_get_or}
+use Rattle.std.proofs.Common.{◌≡◌, ℕ, zero, suc, ◌+◌, ◌-◌, ◌*◌, ◌/◌, ◌%◌, ◌<◌, ◌≤◌, List, [], ◌∷◌, ◌++◌, length, get_or, take, drop, sym, refl, ap, ◌∙◌, arith}
+use Rattle.std.proofs.lemmas.List.{append_assoc, ext_get_or, flat_map_more, get_or-append_right, take_all}
 use Rattle.std.proofs.lemmas.Bool.Decides.{nat_tests}
 use Rattle.engine.specs.Strings.{Bytes}
 use Rattle.hex_text.specs.Hex.{digit, pair, hex}
@@ -24,6 +24,35 @@ hex_next [] [] rest is more = absurd (omega arith)
 hex_next [] (b ∷ x) rest is more = ap (λ (l : List ℕ). get_or l 0 0 ∷ get_or l 1 0 ∷ []) (sym is)
 hex_next (a ∷ s) [] rest is more = absurd (omega arith)
 hex_next (a ∷ s) (b ∷ x) rest is more = hex_next s x rest (ap (drop 2) is) (omega arith)
+
+-- the first of the digits that are left
+pub first_left : (digits s rest : List ℕ) → digits ≡ hex s ++ rest → get_or digits (2 * length s) 0 ≡ get_or rest 0 0
+first_left digits s rest is =
+    let none : 2 * length s - 2 * length s ≡ 0 = omega arith in
+    ap (λ (l : List ℕ). get_or l (2 * length s) 0) is
+    ∙ get_or-append_right (hex s) rest (2 * length s) (2 * length s) 0 (hex_long s) (omega arith)
+    ∙ ap (λ (k : ℕ). get_or rest k 0) none
+
+-- of at least two digits, the first two, and what follows them
+pub two_first : (rest : List ℕ) → 2 ≤ length rest → rest ≡ get_or rest 0 0 ∷ get_or rest 1 0 ∷ take (length rest - 2) (drop 2 rest)
+two_first [] more = absurd (omega arith)
+two_first (a ∷ []) more = absurd (omega arith)
+two_first (a ∷ b ∷ rest) more = ap (λ (l : List ℕ). a ∷ b ∷ l) (sym (take_all (length (a ∷ b ∷ rest) - 2) rest (omega arith)))
+
+-- a digit pair taken from what is left
+pub pair_taken : (digits s rest after : List ℕ) (b high low : ℕ) → digits ≡ hex s ++ rest → rest ≡ high ∷ low ∷ after → high ∷ low ∷ [] ≡ pair b → digits ≡ hex (s ++ b ∷ []) ++ after
+pair_taken digits s rest after b high low is split read =
+    is
+    ∙ ap (λ (l : List ℕ). hex s ++ l) (split ∙ ap (λ (l : List ℕ). l ++ after) read)
+    ∙ sym (append_assoc (hex s) (pair b) after)
+    ∙ ap (λ (l : List ℕ). l ++ after) (flat_map_more pair [] s b)
+
+-- a byte more at the end
+pub bytes_further : (s : List ℕ) (b : ℕ) → Bytes s → b < 256 → Bytes (s ++ b ∷ [])
+bytes_further [] b bytes small zero = small
+bytes_further [] b bytes small (suc i) = omega arith
+bytes_further (a ∷ s) b bytes small zero = bytes zero
+bytes_further (a ∷ s) b bytes small (suc i) = bytes_further s b (λ k. bytes (suc k)) small i
 
 -- ---- what is written in one way only
 

@@ -23,14 +23,23 @@ pub fn fill_string(digits: &[u8], string: &mut [u8]) -> Option<()>
     rest.is_empty().then_some(())
 }
 
-// The string that is written in these digits.
+// The string that is written in these digits. For an odd number of them no memory is asked for, and for a digit that is
+// none no more than for the bytes before it; so it is no fill_string of a string made before.
 pub fn read_string(heap: Global, digits: &[u8]) -> Result<Option<Vec<u8>>, AllocError>
     ensures { IfOk result (ReadsString hex digits.now) }
 {
-    let mut string = vec![in heap; 0; digits.len() / 2]?;
-    // no `?` here: that there is no such string is an answer, and no error
-    let Some(()) = fill_string(digits, &mut string) else {
+    if digits.len() % 2 != 0 {
         return Ok(None);
-    };
+    }
+    let mut string = Vec::new(heap);
+    let mut rest = digits;
+    while let [high, low, after @ ..] = rest {
+        // no `?` here: that there is no such string is an answer, and no error
+        let Some(b) = hex_byte(*high as char, *low as char) else {
+            return Ok(None);
+        };
+        string.push(b)?;
+        rest = after;
+    }
     Ok(Some(string))
 }

@@ -10,5 +10,5 @@ returns-clause-writes g c =
     let shown : styled_digits_output c.in_radix.result c.laid_out.result ≡ Some (pair c.args.self.now.0) =
     ap (styled_digits_output c.in_radix.result) c.laid_out.ensures
     ∙ ap (option_map (padded_integral (format_spec 32 0 4 2 (2 ^ 64 - 1)) false [])) c.in_radix.ensures
-    ∙ ap Some (hex_byte false c.args.self.now.0 (omega arith)) in
+    ∙ ap Some (hex_byte false _ (omega arith) ∙ ap pair (omega arith)) in
     rw shown at c.write.ensures.writes
