@@ -1,2 +1,3 @@
+mod Reading
 mod Requests
 mod Screens

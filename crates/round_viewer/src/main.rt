@@ -1,7 +1,7 @@
 // The round viewer: a request on standard input, the state after its rounds on standard output.
 #![tactic(auto)]
 
-ghost use Rattle.std.specs.Prelude.{◌≡◌, ℕ, List, take, IfOk, IfSome};
+ghost use Rattle.std.specs.Prelude.{◌≡◌, ℕ, ◌≤◌, take, IfOk, IfSome};
 ghost use Rattle.round_viewer.specs.Lines.{text};
 ghost use Rattle.round_viewer.specs.Views.{Views};
 
@@ -12,33 +12,50 @@ mod tests;
 mod view;
 
 use request::LENGTH;
-use std::alloc::Global;
 use std::io;
 use std::io::Read;
 use view::{Screen, view};
 
 // 101, a byte more than a request has: an input of so many bytes is too long.
-const LIMIT: u64 = LENGTH as u64 + 1;
+const LIMIT: usize = LENGTH + 1;
 
-// Reads an input up to its end, or up to the byte by which it is too long.
-fn read_input<R: Read + Drop>(heap: Global, input: R) -> io::Result<Vec<u8>>
-    ensures { IfOk result (λ bytes. IfSome (R.remaining input) (λ all. bytes.items ≡ take 101 all)) }
+// Reads an input up to its end or the buffer's, and gives the number of bytes read. Read after read into a buffer, with a
+// count: `read_to_end` would ask for memory.
+fn read_input<R: Read + Drop>(mut input: R, buffer: &mut [u8; LIMIT]) -> io::Result<usize>
+    ensures within { IfOk result (λ filled. filled ≤ 101) }
+    ensures bytes { IfOk result (λ filled. IfSome (R.remaining input) (λ all. take filled buffer.new ≡ take 101 all)) }
 {
-    let mut bytes = Vec::new(heap);
-    input.take(LIMIT).read_to_end(&mut bytes)?;
-    Ok(bytes)
+    let mut filled = 0;
+    while filled < LIMIT {
+        let got = input.read(&mut buffer[filled..])?;
+        if got == 0 {
+            break;
+        }
+        filled += got;
+    }
+    Ok(filled)
 }
 
-// What to show for an input, the whole of it where it is known what the reader holds.
-fn shown<R: Read + Drop>(heap: Global, input: R) -> io::Result<Screen>
-    ensures some { IfOk result (λ screen. (read : List ℕ) × Views read (text screen)) }
+// What to show for the bytes that were read.
+fn shown(buffer: &[u8; LIMIT], filled: usize) -> Screen
+    requires { filled ≤ 101 }
+    ensures { Views (take filled buffer.now) (text result) }
+{
+    view(&buffer[..filled])
+}
+
+// What to show for an input, read into a buffer: the answer to the bytes that were read, and so to the whole input where
+// it is known what the reader holds.
+fn screen_of<R: Read + Drop>(input: R, buffer: &mut [u8; LIMIT]) -> io::Result<Screen>
+    ensures some { IfOk result (λ screen. (filled : ℕ) × (filled ≤ 101) × Views (take filled buffer.new) (text screen)) }
     ensures whole { IfOk result (λ screen. IfSome (R.remaining input) (λ all. Views all (text screen))) }
 {
-    let bytes = read_input(heap, input)?;
-    Ok(view(&bytes))
+    let filled = read_input(input, buffer)?;
+    Ok(shown(buffer, filled))
 }
 
 fn main(rt: HostRuntime) -> io::Result<()> {
-    let screen = shown(rt.alloc(), rt.stdin())?;
+    let mut buffer = [0; LIMIT];
+    let screen = screen_of(rt.stdin(), &mut buffer)?;
     rt.print(screen)
 }
