@@ -16,13 +16,20 @@ pub(crate) fn string(heap: Global, word: &[u8]) -> Result<Vec<u8>, Fault> {
     }
 }
 
-// A number in decimal digits: `parse` alone would take a sign too.
+// A number with one decimal digit more, if that is one and there is room for it.
+fn with_digit(number: usize, c: u8) -> Option<usize> {
+    let digit = (c as char).to_digit(10)?;
+    number.checked_mul(10)?.checked_add(digit as usize)
+}
+
+// A number in decimal digits. `parse` would take a sign too, and read on where there is no room for more digits.
 pub(crate) fn number(word: &[u8]) -> Result<usize, Fault> {
-    if !word.iter().all(|c| c.is_ascii_digit()) {
+    if word.is_empty() {
         return Err(Fault::NotUnderstood);
     }
-    let digits = str::from_utf8(word).map_err(|_| Fault::NotUnderstood)?;
-    digits.parse::<usize>().map_err(|_| Fault::NotUnderstood)
+    word.iter()
+        .try_fold(0, |number, c| with_digit(number, *c))
+        .ok_or(Fault::NotUnderstood)
 }
 
 // A number of 32 bits.

@@ -31,12 +31,12 @@ pub(crate) fn is_cleared(string: &[u8], zeros: usize) -> bool {
 }
 
 // A box, the length of the buffer that it is opened into, and what has to be answered: the length of the case's message,
-// or a refusal.
+// or a refusal with its number.
 #[derive(Clone, Copy)]
 pub(crate) struct Attempt<'a> {
     sealed: &'a [u8],
     room: usize,
-    wanted: Result<usize, Refusal>,
+    wanted: Result<usize, (Refusal, u8)>,
 }
 
 impl<'a> Attempt<'a> {
@@ -52,9 +52,9 @@ impl<'a> Attempt<'a> {
     // A box that is not the case's, or does not fit the buffer. The first fault is answered.
     pub(crate) fn faulty(sealed: &'a [u8], room: usize) -> Attempt<'a> {
         let refusal = match sealed.len().checked_sub(TAG_LEN) {
-            None => Refusal::BoxTooShort,
-            Some(n) if room < n => Refusal::BufferTooShort,
-            Some(_) => Refusal::TagDiffers,
+            None => (Refusal::BoxTooShort, 8),
+            Some(n) if room < n => (Refusal::BufferTooShort, 7),
+            Some(_) => (Refusal::TagDiffers, 9),
         };
         Attempt {
             sealed,
@@ -67,7 +67,7 @@ impl<'a> Attempt<'a> {
     fn leaves(&self, buffer: &[u8], message: &[u8]) -> bool {
         match self.wanted {
             Ok(_) => is_left(buffer, message),
-            Err(Refusal::TagDiffers) => {
+            Err((Refusal::TagDiffers, _)) => {
                 is_cleared(buffer, self.sealed.len().saturating_sub(TAG_LEN))
             }
             Err(_) => all_are(buffer, UNTOUCHED),
@@ -102,13 +102,14 @@ impl<'a> Attempt<'a> {
     ) -> Result<bool, AllocError> {
         let mut buffer = vec![in bench.heap; UNTOUCHED; self.room]?;
         let answer = self.open(bench.engine, case, size, &mut buffer);
+        let answer = answer.map_err(|refusal| (refusal, refusal.number()));
         Ok(answer == self.wanted && self.leaves(&buffer, case.message))
     }
 
     // Whether the reference does what is wanted. It has no buffer that could be too short.
     pub(crate) fn reference_agrees(&self, heap: Global, case: &Case) -> Result<bool, AllocError> {
         let opened = reference::cipher::open(heap, &case.key, &case.nonce, case.ad, self.sealed)?;
-        let opens = matches!(self.wanted, Ok(_) | Err(Refusal::BufferTooShort));
+        let opens = matches!(self.wanted, Ok(_) | Err((Refusal::BufferTooShort, _)));
         match opened {
             Some(message) => Ok(opens && message.as_slice() == case.message),
             None => Ok(!opens),
