@@ -33,7 +33,8 @@ impl ThreeShareEngine {
     pub fn shares(&self) -> Shares
         ensures { result ≡ self.now.shares }
     {
-        self.shares
+        let ThreeShareEngine { shares } = *self;
+        shares
     }
 }
 

@@ -25,12 +25,11 @@ pub fn round(s: &mut Words, number: u32) {
         mix_column(s, j);
     }
     let [a, b, c, d, ..] = *s;
-    let top = match number % 4 {
-        0 => [b ^ 0x9e37_7900 ^ number, a, d, c],
-        2 => [c, d, a, b],
-        _ => [a, b, c, d],
-    };
-    s[..4].copy_from_slice(&top);
+    match number % 4 {
+        0 => s[..4].copy_from_slice(&[b ^ 0x9e37_7900 ^ number, a, d, c]),
+        2 => s[..4].copy_from_slice(&[c, d, a, b]),
+        _ => {}
+    }
 }
 
 pub fn permute(s: &mut Words) {
