@@ -2,6 +2,7 @@
 #![tactic(auto)]
 
 ghost use Rattle.std.specs.Prelude.{◌≡◌, ℕ, ◌≤◌, take, IfOk, IfSome};
+ghost use Rattle.std.specs.Io.KnownBytes.{Consumes};
 ghost use Rattle.round_viewer.specs.Lines.{text};
 ghost use Rattle.round_viewer.specs.Views.{Views};
 
@@ -21,9 +22,10 @@ const LIMIT: usize = LENGTH + 1;
 
 // Reads an input up to its end or the buffer's, and gives the number of bytes read. Read after read into a buffer, with a
 // count: `read_to_end` would ask for memory.
-fn read_input<R: Read + Drop>(mut input: R, buffer: &mut [u8; LIMIT]) -> io::Result<usize>
+fn read_input<R: Read>(input: &mut R, buffer: &mut [u8; LIMIT]) -> io::Result<usize>
     ensures within { IfOk result (λ filled. filled ≤ 101) }
-    ensures bytes { IfOk result (λ filled. IfSome (R.remaining input) (λ all. take filled buffer.new ≡ take 101 all)) }
+    ensures bytes { IfOk result (λ filled. IfSome (R.remaining input.old) (λ all. take filled buffer.new ≡ take 101 all)) }
+    ensures no_more { IfOk result (λ filled. Consumes (R.remaining input.old) (R.remaining input.new) (take filled buffer.new)) }
 {
     let mut filled = 0;
     while filled < LIMIT {
@@ -46,11 +48,11 @@ fn shown(buffer: &[u8; LIMIT], filled: usize) -> Screen
 
 // What to show for an input, read into a buffer: the answer to the bytes that were read, and so to the whole input where
 // it is known what the reader holds.
-fn screen_of<R: Read + Drop>(input: R, buffer: &mut [u8; LIMIT]) -> io::Result<Screen>
+fn screen_of<R: Read + Drop>(mut input: R, buffer: &mut [u8; LIMIT]) -> io::Result<Screen>
     ensures some { IfOk result (λ screen. (filled : ℕ) × (filled ≤ 101) × Views (take filled buffer.new) (text screen)) }
     ensures whole { IfOk result (λ screen. IfSome (R.remaining input) (λ all. Views all (text screen))) }
 {
-    let filled = read_input(input, buffer)?;
+    let filled = read_input(&mut input, buffer)?;
     Ok(shown(buffer, filled))
 }
 
